@@ -60,8 +60,8 @@ pub use Rattle.tds_cells.specs.WholeCells.{WritesCell, WritesWhole}
 pub use Rattle.tds_cells.specs.declared.layout.CellFormat.{CellFormat}
 pub use Rattle.tds_cells.specs.declared.layout.Layout.{Layout}
 pub use Rattle.tds_cells.specs.declared.whole.TheConstants.{CELL_ROOM}
-pub use Rattle.tds_cells.specs.MarkedRuns.{CellRun, cell_run, none_null}
-pub use Rattle.tds_cells.specs.Runs.{RowsRun, rows_run}
+pub use Rattle.tds_cells.specs.MarkedRuns.{CellRun, Covers, cell_run, none_null, nulls_of}
+pub use Rattle.tds_cells.specs.Runs.{Ran, RowsRun, rows_run}
 pub use Rattle.tds_cells.specs.declared.run.RowsSpan.{RowsSpan}
 pub use Rattle.tds_cells.specs.declared.run.KnownRun.{KnownRun}
 pub use Rattle.tds_cells.specs.declared.run.formats.FormatsRun.{FormatsRun}

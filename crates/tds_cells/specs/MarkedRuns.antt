@@ -1,14 +1,17 @@
 -- What a run over the cells of an NBCROW does, which are NULL by their bit or lie whole in the packet.
-use Rattle.std.specs.Prelude.{◌≡◌, ◌⊎◌, ◌+◌, ◌-◌, ◌<◌, ◌≤◌, ℕ, zero, suc, Bool, true, false, List, [], ◌∷◌, ◌++◌, length, take, drop}
+use Rattle.std.specs.Prelude.{◌≡◌, ◌⊎◌, ◌+◌, ◌-◌, ◌*◌, ◌<◌, ◌≤◌, ℕ, ⊤, zero, suc, Bool, true, false, List, [], ◌∷◌, ◌++◌, length, take, drop}
 use Rattle.tds_values.specs.declared.kind.Kind.{Kind}
 use Rattle.tds_columns.specs.Description.{Column}
 use Rattle.tds_text.specs.Quoting.{in_line, null_field}
 use Rattle.tds_values.specs.declared.charset.Charset.{Charset}
 use Rattle.tds_values.specs.declared.span.Span.{Span}
 use Rattle.tds_cells.specs.declared.whole.TheConstants.{CELL_ROOM, LOOKAHEAD}
+use Rattle.tds_cells.specs.declared.nulls.Nulls.{Nulls}
+use Rattle.tds_cells.specs.declared.nulls.Nulls.TheVariants.{Unmarked, Marked}
 use Rattle.tds_cells.specs.declared.row_format.Cursor.{Cursor}
 use Rattle.tds_cells.specs.declared.row_format.RowFormat.{RowFormat}
 use Rattle.tds_cells.specs.Cells.{cell_start, shape}
+use Rattle.tds_cells.specs.Rows.{bit}
 use Rattle.tds_cells.specs.CellTexts.{IsLeft, is_last_column}
 use Rattle.tds_cells.specs.RowFormats.{IsCursor, Knows}
 use Rattle.tds_cells.specs.WholeCells.{WritesWhole}
@@ -16,6 +19,16 @@ use Rattle.tds_cells.specs.WholeCells.{WritesWhole}
 -- no column is NULL by its bit, as in a ROW
 abbrev pub none_null : ℕ → Bool
 none_null k = false
+
+-- which columns of a row are NULL by a bit
+abbrev pub nulls_of : Nulls → ℕ → Bool
+nulls_of Unmarked = none_null
+nulls_of (Marked bitmap) = bit bitmap.now
+
+-- A bitmap, if there is one, has a bit for each of this many columns.
+abbrev pub Covers : Nulls → ℕ → Type 0
+Covers Unmarked count = ⊤
+Covers (Marked bitmap) count = count ≤ 8 * length bitmap.now
 
 -- what a run within a row did: how many bytes it used, how many it made, and where it ended
 pub record CellRun : Type 0 where

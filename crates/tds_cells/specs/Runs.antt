@@ -1,6 +1,6 @@
 -- What a run of cells does, which lie whole in the packet.
 use Rattle.std.specs.Prelude.{◌≡◌, ◌==◌, ◌⊎◌, ◌-◌, ◌<◌, ◌≤◌, ℕ, Bool, false, List, [], ◌∷◌, ◌++◌, length, map, take, drop, Option, Some, None, MatchOption}
-use Rattle.std.specs.Prelude.{if◌then◌else◌, slice_index}
+use Rattle.std.specs.Prelude.{if◌then◌else◌, min, slice_index}
 use Rattle.tds_values.specs.declared.kind.Kind.{Kind}
 use Rattle.tds_packet.specs.declared.fault.Fault.{Fault}
 use Rattle.tds_packet.specs.declared.fault.Fault.TheVariants.{MessageEnded, RefusedToken}
@@ -12,12 +12,14 @@ use Rattle.tds_values.specs.declared.charset.Charset.{Charset}
 use Rattle.tds_values.specs.declared.span.Span.{Span}
 use Rattle.tds_cells.specs.declared.run.RowsSpan.{RowsSpan}
 use Rattle.tds_cells.specs.declared.run.KnownRun.{KnownRun}
+use Rattle.tds_cells.specs.declared.nulls.Nulls.{Nulls}
+use Rattle.tds_cells.specs.declared.nulls.Nulls.TheVariants.{Unmarked, Marked}
 use Rattle.tds_cells.specs.declared.whole.TheConstants.{CELL_ROOM}
 use Rattle.tds_cells.specs.declared.row_format.Cursor.{Cursor}
 use Rattle.tds_cells.specs.declared.row_format.RowFormat.{RowFormat}
 use Rattle.tds_cells.specs.Cells.{Cell, field}
 use Rattle.tds_cells.specs.Rows.{PlainRow, RowPart, RowToken, WholeRow, marked, next_cell, row_add, row_fault, row_size, row_so_far, token_byte}
-use Rattle.tds_cells.specs.Rows.{token_start}
+use Rattle.tds_cells.specs.Rows.{bit, token_start}
 use Rattle.tds_cells.specs.MarkedRuns.{CellRun, EndsFar, EndsLeft, MarkedWritten}
 use Rattle.tds_cells.specs.CellTexts.{IsLeft, WritesKind, whole_size}
 use Rattle.tds_cells.specs.RowFormats.{BeginsRow, IsCursor, Knows, place}
@@ -151,6 +153,31 @@ pub record RowsRan (row_format : RowFormat) (from : Cursor) (bytes text : List �
   pub made : run.made ≤ length text
   pub few : run.rows ≤ run.used
   pub writes : RowsWritten row_format from bytes text run
+
+-- A run wrote the text of the cells that it used: of a row with a bitmap, within it, and else over the ends of rows.
+abbrev pub RunWritten : RowFormat → Nulls → Cursor → List ℕ → List ℕ → RowsRun → Type 0
+RunWritten row_format Unmarked from bytes text run = RowsWritten row_format from bytes text run
+RunWritten row_format (Marked bitmap) from bytes text run = (run.rows ≡ 0)
+    × MarkedWritten row_format (bit bitmap.now) from bytes text (record { used = run.used; made = run.made; ahead = run.ahead })
+
+-- It used and made no more than there is, and began fewer rows than it used bytes.
+pub record Ran (row_format : RowFormat) (nulls : Nulls) (from : Cursor) (bytes text : List ℕ) (run : RowsRun) : Type 0 where
+  pub used : run.used ≤ length bytes
+  pub made : run.made ≤ length text
+  pub few : run.rows ≤ run.used
+  pub writes : RunWritten row_format nulls from bytes text run
+
+-- A run ended so: at the row's end, without room for every scalar, or before a cell that is left; and if it goes over the ends of rows, not at one that a
+-- ROW follows.
+abbrev pub EndsRun : RowFormat → Nulls → Cursor → List ℕ → ℕ → Type 0
+EndsRun row_format Unmarked at bytes room = RunEnds row_format at bytes room × EndsLast row_format at.column bytes
+EndsRun row_format (Marked bitmap) at bytes room = EndsLeft row_format (bit bitmap.now) at bytes room
+
+-- A run within a row ended so: with a bitmap as one over rows does, and else so if it used no byte, and before the columns that the row format knows.
+abbrev pub EndsInRow : RowFormat → Nulls → Cursor → List ℕ → ℕ → CellRun → Type 0
+EndsInRow row_format Unmarked from bytes room run = (run.used ≡ 0 → from.column < row_format.count → RunEnds row_format from bytes room)
+    × LeavesNext row_format from (min row_format.known row_format.count) bytes room run
+EndsInRow row_format (Marked bitmap) from bytes room run = EndsLeft row_format (bit bitmap.now) run.ahead (drop run.used bytes) (room - run.made)
 
 -- A run over rows all of whose columns the row format knows did so from this column on, whatever the walk.
 pub record KnownRan (row_format : RowFormat) (column : ℕ) (bytes text : List ℕ) (run : KnownRun) : Type 0 where

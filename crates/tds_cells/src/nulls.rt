@@ -1,7 +1,8 @@
 // Cells of NBCROWs that are whole in the packet or NULL by their bit (MS-TDS, NBCROW).
 ghost use Rattle.std.specs.Prelude.{true, ◌≡◌, ◌+◌, ◌-◌, ◌*◌, ◌<◌, ◌≤◌, drop, length, take};
 ghost use Rattle.tds_cells.specs.MarkedRows.{EndsNbcRows, NbcRowsWritten};
-ghost use Rattle.tds_cells.specs.MarkedRuns.{AreClear, AreSet, EndsClear, EndsFar, EndsMarked, MarkedWritten, WritesNulls, cell_run};
+ghost use Rattle.tds_cells.specs.MarkedRuns.{AreClear, AreSet, Covers, EndsClear, EndsFar, EndsMarked, MarkedWritten, WritesNulls, cell_run, nulls_of};
+ghost use Rattle.tds_cells.specs.Runs.{EndsInRow, EndsRun, Ran, rows_run};
 ghost use Rattle.tds_cells.specs.Rows.{bit, bitmap_length, longest_bitmap};
 ghost use Rattle.tds_cells.specs.RowFormats.{KnowsAll};
 
@@ -23,12 +24,33 @@ pub fn bitmap_size(columns: u16) -> usize
     (columns as usize + 7) / 8
 }
 
-/// Whether the bit of a column is set. The lowest bit of the first byte is the bit of column 0.
-pub fn is_null(bitmap: &[u8], column: u16) -> bool
+// Whether the bit of a column is set. The lowest bit of the first byte is the bit of column 0.
+fn is_null(bitmap: &[u8], column: u16) -> bool
     requires { column < 8 * length bitmap.now }
     ensures { result ≡ bit bitmap.now column }
 {
     (bitmap[column as usize / 8] >> (column % 8) as u32) & 1 == 1
+}
+
+/// Which columns of a row are NULL by a bit: none of a ROW, and of an NBCROW those whose bit is set in its bitmap.
+#[derive(Clone, Copy)]
+pub enum Nulls<'b> {
+    Unmarked,
+    Marked(&'b [u8]),
+}
+
+impl<'b> Nulls<'b> {
+    /// Whether a column is NULL by a bit.
+    #[inline(always)]
+    pub fn is_null(&self, column: u16) -> bool
+        requires { Covers self.now (column + 1) }
+        ensures { result ≡ nulls_of self.now column }
+    {
+        match *self {
+            Nulls::Unmarked => false,
+            Nulls::Marked(bitmap) => is_null(bitmap, column),
+        }
+    }
 }
 
 // The end of the columns from `from` on whose bits are clear. Those before `known` are known to be clear.
@@ -80,7 +102,7 @@ const EIGHT: usize = 8;
 
 // In how many columns NULL was written, and how many bytes that made.
 #[derive(Clone, Copy)]
-struct Nulls {
+struct WrittenNulls {
     columns: usize,
     made: usize,
 }
@@ -88,7 +110,7 @@ struct Nulls {
 // Writes NULL in its line, in the next column, which is NULL by its bit, and in those after it that are too by the bits of the
 // same byte, in `most` columns at most.
 #[inline(always)]
-fn write_nulls(bitmap: &[u8], column: u16, count: u16, most: usize, to: &mut [u8]) -> Nulls
+fn write_nulls(bitmap: &[u8], column: u16, count: u16, most: usize, to: &mut [u8]) -> WrittenNulls
     requires bitmap { count ≤ 8 * length bitmap.now }
     requires within { column < count }
     requires null { bit bitmap.now column ≡ true }
@@ -103,10 +125,10 @@ fn write_nulls(bitmap: &[u8], column: u16, count: u16, most: usize, to: &mut [u8
     let columns = nulls_ahead(bitmap, column, count).min(most);
     if columns < 2 || column == 0 {
         let made = write_null(column, column + 1 == count, to);
-        return Nulls { columns: 1, made };
+        return WrittenNulls { columns: 1, made };
     }
     to[..NULLS_SIZE].copy_from_slice(&NULLS);
-    Nulls {
+    WrittenNulls {
         columns,
         made: NULL_SIZE * columns,
     }
@@ -235,10 +257,10 @@ impl<'a> RowFormat<'a> {
         Span { used, made }
     }
 
-    /// Writes cell after cell of an NBCROW, as far as they are NULL by their bit or whole in these bytes, aren't in several
-    /// chunks, and have room. NULLs are written here.
+    // Writes cell after cell of an NBCROW, as far as they are NULL by their bit or whole in these bytes, aren't in several
+    // chunks, and have room, and steps over them. NULLs are written here.
     #[inline(always)]
-    pub fn run_nbc(&self, at: &mut Cursor<'a>, bitmap: &[u8], bytes: &[u8], to: &mut [u8]) -> Span
+    fn run_nbc(&self, at: &mut Cursor<'a>, bitmap: &[u8], bytes: &[u8], to: &mut [u8]) -> Span
         requires bitmap { self.now.count ≤ 8 * length bitmap.now }
         ensures ends { EndsMarked self.now (bit bitmap.now) bytes.now (length to.old) (cell_run result at.new) }
         ensures cells { MarkedWritten self.now (bit bitmap.now) at.old bytes.now to.new (cell_run result at.new) }
@@ -247,5 +269,35 @@ impl<'a> RowFormat<'a> {
             return self.run_marked::<true>(at, bitmap, bytes, to);
         }
         self.run_marked::<false>(at, bitmap, bytes, to)
+    }
+
+    /// Writes cell after cell of a row, as far as they are NULL by a bit or whole in these bytes, aren't in several chunks and have
+    /// room, and steps over them; over the ends of rows as `run_rows` does, if they are ROWs.
+    #[inline(always)]
+    pub fn run(&self, at: &mut Cursor<'a>, nulls: Nulls, bytes: &[u8], to: &mut [u8]) -> RowsSpan
+        requires some { 0 < self.now.count }
+        requires room { CELL_ROOM ≤ length to.old }
+        requires covers { Covers nulls self.now.count }
+        ensures ends { EndsRun self.now nulls.entry at.new (drop result.used bytes.now) (length to.old - result.made) }
+        ensures cells { Ran self.now nulls.entry at.old bytes.now to.new (rows_run result at.new) }
+    {
+        match nulls {
+            Nulls::Unmarked => self.run_rows(at, bytes, to),
+            Nulls::Marked(bitmap) => RowsSpan::in_row(self.run_nbc(at, bitmap, bytes, to)),
+        }
+    }
+
+    /// Writes such cells as far as the row's end. Of a ROW it may end before a column that the row format doesn't know.
+    pub fn run_in_row(&self, at: &mut Cursor<'a>, nulls: Nulls, bytes: &[u8], to: &mut [u8]) -> Span
+        requires covers { Covers nulls self.now.count }
+        ensures used { result.used ≤ length bytes.now }
+        ensures made { result.made ≤ length to.old }
+        ensures ends { EndsInRow self.now nulls.entry at.old bytes.now (length to.old) (cell_run result at.new) }
+        ensures cells { MarkedWritten self.now (nulls_of nulls.entry) at.old bytes.now to.new (cell_run result at.new) }
+    {
+        match nulls {
+            Nulls::Unmarked => self.run_cells::<false>(at, self.count(), bytes, to),
+            Nulls::Marked(bitmap) => self.run_nbc(at, bitmap, bytes, to),
+        }
     }
 }

@@ -36,6 +36,18 @@ impl RowsSpan {
             rows: 0,
         }
     }
+
+    /// That of a run within a row.
+    #[inline(always)]
+    pub(crate) fn in_row(span: Span) -> RowsSpan
+        ensures { result ≡ record { used = span.used; made = span.made; rows = 0 } }
+    {
+        RowsSpan {
+            used: span.used,
+            made: span.made,
+            rows: 0,
+        }
+    }
 }
 
 /// What a run over rows did all of whose columns the row format knows: how many bytes it used, how many it made, how many rows it
@@ -140,7 +152,7 @@ impl<'a> RowFormat<'a> {
     /// Writes cell after cell of a row, as far as they are whole in these bytes, aren't in several chunks and have room, up to the
     /// column at which it ends, and steps over them. `KNOWN` says that the row format knows all columns.
     #[inline(always)]
-    pub fn run_cells<const KNOWN: bool>(
+    pub(crate) fn run_cells<const KNOWN: bool>(
         &self,
         at: &mut Cursor<'a>,
         end: u16,
@@ -377,7 +389,7 @@ impl<'a> RowFormat<'a> {
     /// Writes cell after cell, as far as they are whole in these bytes, aren't in several chunks and have room, over the
     /// ends of rows, and steps over them: after a whole row it goes on if the byte of the next ROW follows.
     #[inline(always)]
-    pub fn run_rows(&self, at: &mut Cursor<'a>, bytes: &[u8], to: &mut [u8]) -> RowsSpan
+    pub(crate) fn run_rows(&self, at: &mut Cursor<'a>, bytes: &[u8], to: &mut [u8]) -> RowsSpan
         requires some { 0 < self.now.count }
         requires room { CELL_ROOM ≤ length to.old }
         ensures ends { RunEnds self.now at.new (drop result.used bytes.now) (length to.old - result.made) }

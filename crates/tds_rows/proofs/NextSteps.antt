@@ -168,16 +168,17 @@ abbrev pub NearsAll : {R W : Type 0} → (R → Option (List ℕ)) → (W → Op
 NearsAll remaining contents nulls p rows at =
     (columns : List Column) → Knows rows.row_format.now columns → NearsHere remaining contents columns nulls p rows at
 
-module _ {R W : Type 0} {remaining : R → Option (List ℕ)} {contents : W → Option (List ℕ)} {old new : Rows R W} {nulls : ℕ → Bool} {p : At} {from : Cursor}
-    (in_row : IsInRow old) (nears : NearsAll remaining contents nulls p old from) where
-  pub run_near : {U : Type 0} {u : U} {to : Cursor} → N.MarkedRead remaining contents nulls from to old new (Ok u) → NearsAll remaining contents nulls p new to
+module _ {R W : Type 0} {remaining : R → Option (List ℕ)} {contents : W → Option (List ℕ)} {old new : Rows R W} {p : At}
+    {from to : Cursor} {bitmap : N.Bor (List ℕ)} (in_row : IsInRow old) (nears : NearsAll remaining contents (N.bit bitmap.now) p old from) where
+  pub run_near : {count : ℕ} → N.RunRead remaining contents (N.Marked bitmap) from to old new (Ok count)
+      → NearsAll remaining contents (N.bit bitmap.now) p new to
   run_near x columns known =
       let kept = stays_after in_row x.leaves in
       let knows = rw kept.same.3 at known in
       let near = nears columns knows in
-      let put = x.cells columns knows near.0 in
+      let put = x.cells.1 columns knows near.0 in
       let sink = kept.in_row.sink in
-      let more = marked_nears _ _ columns nulls p from.column put.runs.count (here remaining contents old) (here remaining contents new) _ _
+      let more = marked_nears _ _ columns (N.bit bitmap.now) p from.column put.runs.count (here remaining contents old) (here remaining contents new) _ _
       put.runs.writes (record {
         takes = put.takes;
         between = N.between_of remaining new.payload.now kept.in_row.payload.going;
@@ -189,7 +190,7 @@ module _ {R W : Type 0} {remaining : R → Option (List ℕ)} {contents : W → 
       rw kept.same.3 (grind arith)
 
   -- a write of their text failed
-  pub run_stops : {U : Type 0} {stop : Stop} {to : Cursor} → N.MarkedRead {U = U} remaining contents nulls from to old new (Err stop) → (columns : List Column)
+  pub run_stops : {stop : Stop} → N.RunRead remaining contents (N.Marked bitmap) from to old new (Err stop) → (columns : List Column)
       → Knows old.row_format.now columns
       → RowStops old.row_format.now.charset (N.nbc_row_start columns) p.seen (seen remaining new.payload.now) p.place p.held (held contents new.sink.now)
       new.sink.now.failed stop
@@ -197,7 +198,7 @@ module _ {R W : Type 0} {remaining : R → Option (List ℕ)} {contents : W → 
       let near = nears columns knows in
       let y = x.cells columns knows near.0 in
       let sink = in_row.sink in
-      rw y.failed_is (marked_breaks _ _ columns nulls p _ y.runs.count (here remaining contents old) _ _ stop y.bytes [] y.text y.runs.writes
+      rw y.failed_is (marked_breaks _ _ columns (N.bit bitmap.now) p _ y.runs.count (here remaining contents old) _ _ stop y.bytes [] y.text y.runs.writes
       (rw N.append-nil y.takes) y.between (sink.ready.1 sink.writing) sink.ready.2 y.breaks near.1)
 
 -- the next cell was read, or it stopped
@@ -361,14 +362,15 @@ RowsHere remaining contents p rows at count = (columns : List Column) → Knows 
 
 module _ {R W : Type 0} {remaining : R → Option (List ℕ)} {contents : W → Option (List ℕ)} {p : At} {old new : Rows R W} {from : Cursor} {count : ℕ}
     (reads : RowsHere remaining contents p old from count) where
-  pub rows_ran : {to : Cursor} {more : ℕ} → N.RunRead remaining contents from to old new (Ok more) → RowsHere remaining contents p new to (count + more)
+  pub rows_ran : {to : Cursor} {more : ℕ} → N.RunRead remaining contents N.Unmarked from to old new (Ok more)
+      → RowsHere remaining contents p new to (count + more)
   rows_ran x columns known =
       let same = x.leaves.same.3 in
       let y = reads columns (rw same at known) in
       let ran = x.cells columns (rw same at known) y.0 in
       rw same (ran.0, rowing_run y.1 (grind arith))
 
-  pub rows_broke : {stop : Stop} {to : Cursor} → IsInRow old → N.RunRead remaining contents from to old new (Err stop) → (columns : List Column)
+  pub rows_broke : {stop : Stop} {to : Cursor} → IsInRow old → N.RunRead remaining contents N.Unmarked from to old new (Err stop) → (columns : List Column)
       → Knows old.row_format.now columns
       → N.RowsStop N.PlainRow old.row_format.now.charset columns p.seen (seen remaining new.payload.now) p.place p.held (held contents new.sink.now)
       new.sink.now.failed stop

@@ -7,7 +7,8 @@ use Rattle.tds_cells.proofs.RowTexts.{line_grows}
 use Rattle.tds_packet.specs.declared.payload.Payload.{Payload}
 use Rattle.tds_rows.proofs.RowSteps.{PutsCell, StopsCell}
 use Rattle.tds_rows.proofs.Words.{Cursor, IsCursor, RowFormat}
-use Rattle.tds_rows.proofs.Paths.{At, over}
+use Rattle.tds_rows.proofs.Paths.{At, at_of, over}
+use Rattle.tds_cells.specs.Runs.{RowsRun}
 use Rattle.tds_cells.proofs.GrowingTexts.{row_grows}
 use Rattle.tds_cells.proofs.RunSteps.{cell_writes, marked_cells}
 use Rattle.tds_cells.proofs.RowFormatRuns.{marked_in_rows}
@@ -86,14 +87,35 @@ run_put {to = to} {r = N.Err stop} _ _ _ writes takes between _ going puts = λ 
   failed_is = puts.failed;
 }
 
+-- what a run used was passed over, and what it made put
+pub run_puts : {R W : Type 0} {row_format : RowFormat} {from : Cursor} {bytes text : List ℕ} {run : RowsRun} (remaining : R → N.Option (List ℕ))
+    (contents : W → N.Option (List ℕ)) (old new : Payload R) (before after : N.Sink W) (nulls : N.Nulls) → N.Ran row_format nulls from bytes text run
+    → N.Takes (N.seen remaining old) (N.seen remaining new) (N.take run.used bytes) 0
+    → N.Puts (held contents before) (held contents after) (N.take run.made text) → new.place ≡ old.place + length (N.take run.used bytes)
+    → N.RunPut remaining contents row_format nulls from run.ahead run.rows old new before after
+run_puts {bytes = bytes} {run = run} remaining contents old new before after N.Unmarked x takes puts at = λ columns knows ahead.
+    let ran = x.writes columns knows ahead in (
+      ran.0,
+      λ charset cells set is. runs_rows {p = at_of remaining contents old before} {q = at_of remaining contents new after} (ran.1 charset cells set is)
+          (N.Takes-more (N.seen remaining old) (N.seen remaining new) (N.take run.used bytes) 0 _ (omega arith) takes) puts at,
+    )
+run_puts _ _ _ _ _ _ (N.Marked bitmap) x takes puts at = (
+  x.writes.0,
+  λ columns knows ahead. record { bytes = _; text = _; runs = x.writes.1 columns knows ahead; takes = takes; puts = puts; place_is = at },
+)
+
 -- the cells of a run within a row were read and put
-pub marked_rows : {row_format : RowFormat} {columns : List Column} {from to : Cursor} {p q : At}
-    → over (N.PutsMarked row_format columns N.none_null from to) p q
-    → IsCursor row_format columns to × ((charset : N.Charset) (cells : List Cell) → row_format.charset ≡ charset → length cells ≡ from.column
-    → over (N.RunsRows charset columns cells (drop from.column columns) (drop to.column columns) to.column 0) p q)
-marked_rows {p = p} {q = q} x =
-    let ran = marked_in_rows x.runs in
-    (ran.0, λ charset cells set is. runs_rows (ran.1 charset cells set is) (grind arith) x.puts x.place_is)
+pub run_within : {R W : Type 0} {row_format : RowFormat} {from to : Cursor} (remaining : R → N.Option (List ℕ)) (contents : W → N.Option (List ℕ))
+    (old new : Payload R) (before after : N.Sink W) (nulls : N.Nulls)
+    → N.PutsMarkedCells remaining contents row_format (N.nulls_of nulls) from to old new before after
+    → N.RunPut remaining contents row_format nulls from to 0 old new before after
+run_within remaining contents old new before after N.Unmarked x = λ columns knows ahead.
+    let y = x columns knows ahead in
+    let p = at_of remaining contents old before in
+    let q = at_of remaining contents new after in
+    let ran = marked_in_rows y.runs in
+    (ran.0, λ charset cells set is. runs_rows {p = p} {q = q} (ran.1 charset cells set is) (grind arith) y.puts y.place_is)
+run_within _ _ _ _ _ _ (N.Marked bitmap) x = (N.refl, x)
 
 -- a write of their text failed, in the row that the run began in
 pub run_breaks : {row_format : RowFormat} {columns : List Column} {from : Cursor} {a b : N.PayloadView} {h j : N.SinkView} {place : ℕ} {failed : Bool}

@@ -1,7 +1,7 @@
 -- The words that the proofs of this crate share.
 pub use Rattle.std.proofs.Common.{refl, ◌+◌, subst, take, ◌⊎◌, arith, suc, zero, length, Result, length-append, inr, Bool, ◌++◌, false, MatchResult}
 pub use Rattle.std.proofs.Common.{ap, add-zero, ◌∙◌, Ok, ◌≡◌, append_assoc, drop, ℕ, ◌≤◌, [], sym, ◌∷◌, ◌%◌, ◌-◌, inl, Err, append-nil, ◌*◌, ◌≢◌, get_or}
-pub use Rattle.std.proofs.Common.{◌^◌, List, ◌<◌, true, rules}
+pub use Rattle.std.proofs.Common.{Bor, ◌^◌, List, ◌<◌, true, rules}
 pub use Rattle.std.proofs.Math.Seq.{drop-nil, take-append_seam}
 pub use Rattle.std.proofs.lemmas.Bool.{cases_lt}
 pub use Rattle.std.proofs.lemmas.Grind.{common_steps}
@@ -76,7 +76,7 @@ pub use Rattle.tds_rows.specs.MarkedPuts.{WritesPrefixMarked, WritesPrefixOfCell
 pub use Rattle.tds_cells.specs.MarkedRuns.{WritesColumn, WritesMarked}
 pub use Rattle.tds_cells.specs.MarkedRuns.{WritesNext}
 pub use Rattle.tds_rows.specs.PassedCells.{CellPassed, StepsOver, StopsPassing, IsGoodValue, CutsPassing, return_cell, PassesData, PassesCell, AnyData}
-pub use Rattle.tds_rows.specs.RowRuns.{MarkedRead, RunRead}
+pub use Rattle.tds_rows.specs.RowRuns.{RunRead}
 pub use Rattle.tds_cells.specs.MarkedRows.{WritesNbcRows}
 pub use Rattle.tds_rows.specs.RowReading.{CellRead, KindRead, LeavesRows, IsInRow, RowsTaken, StaysInRow, NextRead}
 pub use Rattle.tds_rows.specs.RowSteps.{ReadsRow, ReadsRows, RowsRead, RowStops, RowsStop}
@@ -91,7 +91,11 @@ pub use Rattle.tds_cells.specs.Rows.{BeginNoRow}
 pub use Rattle.tds_cells.specs.RowFormats.{IsNextKind, TakesColumn, IsCursor, KnowsSome, Knows}
 pub use Rattle.tds_cells.specs.WholeCells.{WritesCell, WritesWhole}
 pub use Rattle.tds_rows.specs.declared.rows.Rows.{Rows}
-pub use Rattle.tds_cells.specs.MarkedRuns.{RunsMarked, none_null}
+pub use Rattle.tds_cells.specs.MarkedRuns.{Covers, RunsMarked, none_null, nulls_of}
+pub use Rattle.tds_cells.specs.Runs.{Ran}
+pub use Rattle.tds_cells.specs.declared.nulls.Nulls.{Nulls}
+pub use Rattle.tds_cells.specs.declared.nulls.Nulls.TheVariants.{Unmarked, Marked}
+pub use Rattle.tds_rows.specs.RunPuts.{RunPut}
 pub use Rattle.tds_cells.specs.declared.row_format.Cursor.{Cursor}
 pub use Rattle.tds_cells.specs.declared.row_format.RowFormat.{RowFormat}
 pub use Rattle.tds_values.specs.Front.{scalar_size, start_after, length_after, value_length, value_bytes, value_start}

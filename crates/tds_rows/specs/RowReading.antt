@@ -1,5 +1,5 @@
 -- The reading of rows as the contracts of its steps see it.
-use Rattle.std.specs.Prelude.{◌≡◌, ◌==◌, ◌+◌, ◌*◌, ◌<◌, ◌≤◌, ℕ, Bool, true, false, List, [], ◌∷◌, length, Option, Result}
+use Rattle.std.specs.Prelude.{◌≡◌, ◌==◌, ◌+◌, ◌<◌, ◌≤◌, ℕ, Bool, true, false, List, [], ◌∷◌, length, Option, Result}
 use Rattle.tds_values.specs.declared.kind.Kind.{Kind}
 use Rattle.tds_packet.specs.declared.fault.Stop.{Stop}
 use Rattle.tds_packet.specs.declared.payload.Payload.{Payload}
@@ -18,6 +18,8 @@ use Rattle.tds_meter.specs.Space.{Space}
 use Rattle.tds_rows.specs.CellSteps.{CellPut, FieldPut, LeavesSmall, longest_cell}
 use Rattle.tds_cells.specs.Rows.{RowPart, RowToken, longest_bitmap, token_byte}
 use Rattle.tds_cells.specs.MarkedRows.{WritesNbcRows}
+use Rattle.tds_cells.specs.MarkedRuns.{Covers}
+use Rattle.tds_cells.specs.declared.nulls.Nulls.{Nulls}
 use Rattle.tds_rows.specs.RowSteps.{RowPut}
 use Rattle.tds_cells.specs.Rows.{BeginNoRow}
 use Rattle.tds_cells.specs.RowFormats.{IsNextKind, KnowsSome}
@@ -33,6 +35,17 @@ pub record AwaitsRows {R W : Type 0} (payload : Payload R) (sink : Sink W) (smal
   pub going : IsGoing payload
   pub writing : IsWriting sink
   pub room : longest_cell ≤ small.room
+
+-- NBCROWs can be read: the bitmap's area has room for the longest, too.
+pub record AwaitsNbcRows {R W : Type 0} (payload : Payload R) (sink : Sink W) (small bitmap : Space) : Type 0 where
+  pub rows : AwaitsRows payload sink small
+  pub fits : longest_bitmap ≤ bitmap.room
+
+-- A call left payload and sink in order and, if it returned no error, going on, and no more than a cell in the small area.
+pub record LeavesLent {R W U : Type 0} (old new : Payload R) (before after : Sink W) (room left : Space) (result : Result U Stop) : Type 0 where
+  pub payload : LeavesPayload old new result
+  pub sink : LeavesSink before after result
+  pub small : LeavesSmall room left
 
 -- A row is being read: payload and sink go on, and the small area has room for a cell.
 pub record IsInRow {R W : Type 0} (rows : Rows R W) : Type 0 where
@@ -51,10 +64,11 @@ pub record IsAtCell {R W : Type 0} (rows : Rows R W) (at : Cursor) (format : Cel
   pub within : at.column < rows.row_format.now.count
   pub laid : IsLaidOut rows.row_format.now.charset format.kind format.layout
 
--- A row is being read whose bitmap is these bytes.
-pub record IsInMarkedRow {R W : Type 0} (rows : Rows R W) (bitmap : List ℕ) : Type 0 where
+-- A row of some columns is being read, those of which are NULL by a bit of these.
+pub record IsInMarkedRow {R W : Type 0} (rows : Rows R W) (nulls : Nulls) : Type 0 where
   pub in_row : IsInRow rows
-  pub whole : rows.row_format.now.count ≤ 8 * length bitmap
+  pub some : 0 < rows.row_format.now.count
+  pub covers : Covers nulls rows.row_format.now.count
 
 -- Two readings are on the same payload, sink and area, by the same row format.
 abbrev pub IsOnSameRows : {R W : Type 0} → Rows R W → Rows R W → Type 0

@@ -11,7 +11,10 @@ use Rattle.tds_values.specs.declared.charset.Charset.{Charset}
 use Rattle.tds_cells.specs.declared.row_format.Cursor.{Cursor}
 use Rattle.tds_cells.specs.declared.row_format.RowFormat.{RowFormat}
 use Rattle.tds_cells.specs.Cells.{Cell}
-use Rattle.tds_cells.specs.Rows.{PlainRow}
+use Rattle.tds_cells.specs.Rows.{PlainRow, bit}
+use Rattle.tds_cells.specs.declared.nulls.Nulls.{Nulls}
+use Rattle.tds_cells.specs.declared.nulls.Nulls.TheVariants.{Unmarked, Marked}
+use Rattle.tds_rows.specs.MarkedPuts.{PutsMarkedCells}
 use Rattle.tds_cells.specs.RowFormats.{IsCursor, Knows}
 use Rattle.tds_cells.specs.Runs.{after_cells, rows, rows_so_far}
 
@@ -34,3 +37,10 @@ RowsPut remaining contents row_format from to count old new before after = (colu
     IsCursor row_format columns to × ((charset : Charset) (cells : List Cell) → row_format.charset ≡ charset → length cells ≡ from.column →
     RunsRows charset columns cells (drop from.column columns) (drop to.column columns) to.column count (seen remaining old)
     (seen remaining new) old.place new.place (held contents before) (held contents after))
+
+-- The cells between two places were read and their text put: of a row with a bitmap, within it, and else over the ends of so many rows.
+abbrev pub RunPut : {R W : Type 0} → (R → Option (List ℕ)) → (W → Option (List ℕ)) → RowFormat → Nulls → Cursor → Cursor → ℕ → Payload R → Payload R
+    → Sink W → Sink W → Type 0
+RunPut remaining contents row_format Unmarked from to count old new before after = RowsPut remaining contents row_format from to count old new before after
+RunPut remaining contents row_format (Marked bitmap) from to count old new before after = (count ≡ 0)
+    × PutsMarkedCells remaining contents row_format (bit bitmap.now) from to old new before after

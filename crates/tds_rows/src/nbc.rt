@@ -1,20 +1,16 @@
 // A row with a bitmap of the columns that are NULL, and such rows after one another (MS-TDS, NBCROW).
 ghost use Rattle.std.specs.Prelude.{◌*◌, ◌<◌, ◌≤◌, ◌+◌, ◌-◌, List, IfOk};
-ghost use Rattle.tds_cells.specs.MarkedRuns.{EndsLeft};
-ghost use Rattle.tds_rows.specs.MarkedPuts.{PutsMarkedCells, room_left};
-ghost use Rattle.tds_cells.specs.Rows.{bit, NbcRow, longest_bitmap, nbc_row_start};
+ghost use Rattle.tds_cells.specs.Rows.{NbcRow, longest_bitmap, nbc_row_start};
 ghost use Rattle.tds_columns.specs.Description.{Column};
-ghost use Rattle.tds_packet.specs.Payloads.{buffered};
 ghost use Rattle.tds_packet.specs.Reads.{KeepsRoom};
-ghost use Rattle.tds_rows.specs.RowReading.{AwaitsBitmap, IsAtCell, EndsRows, IsInMarkedRow, IsInSomeRow, LeavesRows, NextRead, RowRead, RowsTaken, StaysInRow};
-ghost use Rattle.tds_rows.specs.RowRuns.{MarkedRead};
+ghost use Rattle.tds_rows.specs.RowReading.{AwaitsBitmap, IsAtCell, EndsRows, IsInSomeRow, LeavesRows, NextRead, RowRead, RowsTaken, StaysInRow};
 ghost use Rattle.tds_rows.specs.RowSteps.{RowsRead};
 ghost use Rattle.tds_cells.specs.RowFormats.{Knows};
 
 use crate::cell::null::put_null;
-use crate::rows::{BLOCK_END, Rows, SCRATCH};
+use crate::rows::Rows;
 use std::io::{Read, Write};
-use tds_cells::{CellFormat, Cursor, NBCROW, bitmap_size, is_null};
+use tds_cells::{CellFormat, Cursor, NBCROW, Nulls, bitmap_size};
 use tds_columns::read_into;
 use tds_meter::Area;
 use tds_packet::Stop;
@@ -26,51 +22,6 @@ const SHORT_CELL: usize = 4;
 pub const LONGEST_BITMAP: usize = 8192;
 
 impl<'r, 't, 'p, 's, 'c, R: Read, W: Write> Rows<'r, 't, 'p, 's, 'c, R, W> {
-    // Takes the next cells of an NBCROW, as many as are NULL by their bit or whole in the packet, aren't in several
-    // chunks and have room in the block, puts their text where it waits, and steps over them. It reads nothing and delivers
-    // nothing.
-    fn put_nulls_within(&mut self, at: &mut Cursor<'c>, bitmap: &[u8])
-        requires { IsInMarkedRow self.old bitmap.now }
-        ensures stays { StaysInRow self.old self.new }
-        ensures onward { self.old.payload.now.place ≤ self.new.payload.now.place }
-        ensures ends { EndsLeft self.old.row_format.now (bit bitmap.now) at.new (buffered self.new.payload.now)
-            (room_left self.new.sink.now) }
-        ensures cells { PutsMarkedCells R.remaining W.contents self.old.row_format.now (bit bitmap.now) at.old at.new
-            self.old.payload.now self.new.payload.now self.old.sink.now self.new.sink.now }
-    {
-        let waiting = self.sink.waiting() as usize;
-        let room = self.sink.room() - 1;
-        let (bytes, spare) = (self.payload.buffered(), self.sink.spare(room));
-        let run = self.row_format.run_nbc(at, bitmap, bytes, spare);
-        self.payload.consume(run.used);
-        self.sink.commit(waiting, run.made);
-    }
-
-    // Takes the next cells of an NBCROW, as many as are NULL by their bit or whole in the packet, aren't in several chunks and
-    // have room in a small text, puts that text over the end of the block, and steps over them.
-    fn put_nulls_across(&mut self, at: &mut Cursor<'c>, bitmap: &[u8]) -> Result<(), Stop>
-        requires { IsInMarkedRow self.old bitmap.now }
-        ensures { MarkedRead R.remaining W.contents (bit bitmap.now) at.old at.new self.old self.new result }
-    {
-        let mut text = [0u8; SCRATCH];
-        let bytes = self.payload.buffered();
-        let run = self.row_format.run_nbc(at, bitmap, bytes, &mut text);
-        self.put_made(run, &text)
-    }
-
-    // Takes the next cells of an NBCROW, as many as are NULL by their bit or whole in the packet, aren't in several chunks and
-    // have room, puts their text, and steps over them.
-    fn put_nulls(&mut self, at: &mut Cursor<'c>, bitmap: &[u8]) -> Result<(), Stop>
-        requires { IsInMarkedRow self.old bitmap.now }
-        ensures { MarkedRead R.remaining W.contents (bit bitmap.now) at.old at.new self.old self.new result }
-    {
-        if self.sink.room() <= BLOCK_END {
-            return self.put_nulls_across(at, bitmap);
-        }
-        self.put_nulls_within(at, bitmap);
-        Ok(())
-    }
-
     // Puts the lines of the next NBCROWs, as many as are whole in the packet, away from its end, with the token byte of
     // another, and have room in the block. Returns how many those are; the token byte of each but the first is taken, and
     // that of another. It reads nothing and delivers nothing.
@@ -117,14 +68,14 @@ impl<'r, 't, 'p, 's, 'c, R: Read, W: Write> Rows<'r, 't, 'p, 's, 'c, R, W> {
             RowRead R.remaining W.contents (nbc_row_start columns) self.old self.new result }
     {
         read_into(self.payload, bitmap, bitmap_size(self.row_format.count()))?;
+        let nulls = Nulls::Marked(bitmap.bytes());
         let mut at = self.row_format.start();
         loop {
-            self.put_nulls(&mut at, bitmap.bytes())?;
+            self.put_run(&mut at, nulls)?;
             let Some((format, after)) = self.row_format.next(at) else {
                 return Ok(());
             };
-            let null = is_null(bitmap.bytes(), at.column);
-            self.put_next(at, &format, null)?;
+            self.put_next(at, &format, nulls.is_null(at.column))?;
             at = after;
         }
     }

@@ -7,7 +7,7 @@ ghost use Rattle.tds_packet.specs.Reads.{KeepsRoom};
 ghost use Rattle.tds_cells.specs.Cells.{Cell};
 ghost use Rattle.tds_rows.specs.CellSteps.{LeavesSmall};
 ghost use Rattle.tds_cells.specs.Formats.{most_known};
-ghost use Rattle.tds_rows.specs.RowReading.{AwaitsRows, EndsRows, IsReadyForRow};
+ghost use Rattle.tds_rows.specs.RowReading.{AwaitsNbcRows, AwaitsRows, EndsRows, IsReadyForRow, LeavesLent};
 ghost use Rattle.tds_rows.specs.RowSteps.{IsEarlierStop, RowPut, RowsRead, StopsAgain};
 ghost use Rattle.tds_cells.specs.Rows.{NbcRow, PlainRow, SpellsNbcRow, SpellsRow, longest_bitmap, nbc_row_start, row_start};
 ghost use Rattle.tds_cells.specs.RowFormats.{Learns};
@@ -88,9 +88,7 @@ fn rows_in<'a, R: Read, W: Write>(
 ) -> Result<u64, Stop>
     requires learnt { Learns (columns_of columns.bytes.now) charset formats.now learnt }
     requires rows { AwaitsRows payload.old sink.old small.old }
-    ensures payload { LeavesPayload payload.old payload.new result }
-    ensures sink { LeavesSink sink.old sink.new result }
-    ensures small { LeavesSmall small.old small.new }
+    ensures leaves { LeavesLent payload.old payload.new sink.old sink.new small.old small.new result }
     ensures ends { IfOk result (λ count. EndsRows PlainRow payload.old payload.new count) }
     ensures rows { RowsRead R.remaining W.contents PlainRow charset (columns_of columns.entry.bytes.now)
         payload.old payload.new sink.old sink.new result }
@@ -117,9 +115,7 @@ fn rows_by<const N: usize, R: Read, W: Write>(
 ) -> Result<u64, Stop>
     requires few { N ≤ most_known }
     requires rows { AwaitsRows payload.old sink.old small.old }
-    ensures payload { LeavesPayload payload.old payload.new result }
-    ensures sink { LeavesSink sink.old sink.new result }
-    ensures small { LeavesSmall small.old small.new }
+    ensures leaves { LeavesLent payload.old payload.new sink.old sink.new small.old small.new result }
     ensures ends { IfOk result (λ count. EndsRows PlainRow payload.old payload.new count) }
     ensures rows { RowsRead R.remaining W.contents PlainRow charset (columns_of columns.entry.bytes.now)
         payload.old payload.new sink.old sink.new result }
@@ -221,12 +217,9 @@ fn nbc_rows_in<'a, R: Read, W: Write>(
     sink: &mut Sink<W>,
 ) -> Result<u64, Stop>
     requires learnt { Learns (columns_of columns.bytes.now) charset formats.now learnt }
-    requires rows { AwaitsRows payload.old sink.old small.old }
-    requires bitmap { longest_bitmap ≤ bitmap.old.room }
-    ensures payload { LeavesPayload payload.old payload.new result }
-    ensures sink { LeavesSink sink.old sink.new result }
+    requires rows { AwaitsNbcRows payload.old sink.old small.old bitmap.old }
+    ensures leaves { LeavesLent payload.old payload.new sink.old sink.new small.old small.new result }
     ensures bitmap { KeepsRoom bitmap.old bitmap.new }
-    ensures small { LeavesSmall small.old small.new }
     ensures ends { IfOk result (λ count. EndsRows NbcRow payload.old payload.new count) }
     ensures rows { RowsRead R.remaining W.contents NbcRow charset (columns_of columns.entry.bytes.now)
         payload.old payload.new sink.old sink.new result }
@@ -253,12 +246,9 @@ fn nbc_rows_by<const N: usize, R: Read, W: Write>(
     sink: &mut Sink<W>,
 ) -> Result<u64, Stop>
     requires few { N ≤ most_known }
-    requires rows { AwaitsRows payload.old sink.old small.old }
-    requires bitmap { longest_bitmap ≤ bitmap.old.room }
-    ensures payload { LeavesPayload payload.old payload.new result }
-    ensures sink { LeavesSink sink.old sink.new result }
+    requires rows { AwaitsNbcRows payload.old sink.old small.old bitmap.old }
+    ensures leaves { LeavesLent payload.old payload.new sink.old sink.new small.old small.new result }
     ensures bitmap { KeepsRoom bitmap.old bitmap.new }
-    ensures small { LeavesSmall small.old small.new }
     ensures ends { IfOk result (λ count. EndsRows NbcRow payload.old payload.new count) }
     ensures rows { RowsRead R.remaining W.contents NbcRow charset (columns_of columns.entry.bytes.now)
         payload.old payload.new sink.old sink.new result }

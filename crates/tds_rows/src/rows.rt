@@ -3,35 +3,34 @@ ghost use Rattle.std.specs.Prelude.{◌≡◌, ◌+◌, ◌<◌, ◌≤◌, ℕ,
 ghost use Rattle.tds_text.specs.Fields.{conversion_of};
 ghost use Rattle.tds_cells.specs.Cells.{LongShape, long_start};
 ghost use Rattle.tds_cells.specs.Layouts.{shape_of_layout};
-ghost use Rattle.tds_rows.specs.RowReading.{CellRead, ContentRead, EndsRows, IsAtCell, IsInRow, IsInSomeRow, LeavesRows, StaysInRow, TokenTaken, RowRead};
+ghost use Rattle.tds_rows.specs.RowReading.{CellRead, ContentRead, EndsRows, IsAtCell, IsInMarkedRow, IsInRow, IsInSomeRow, LeavesRows, StaysInRow, TokenTaken, RowRead};
 ghost use Rattle.tds_cells.specs.Rows.{RowToken, token_byte, PlainRow, row_start};
 ghost use Rattle.tds_columns.specs.Description.{Column};
 ghost use Rattle.tds_packet.specs.Payloads.{buffered};
 ghost use Rattle.tds_rows.specs.RowSteps.{RowsRead};
-ghost use Rattle.tds_rows.specs.RunPuts.{RowsPut};
+ghost use Rattle.tds_rows.specs.RunPuts.{RunPut};
 ghost use Rattle.tds_cells.specs.CellTexts.{IsLeft};
-ghost use Rattle.tds_cells.specs.MarkedRuns.{MarkedWritten, cell_run, none_null};
-ghost use Rattle.tds_cells.specs.Runs.{EndsLast, RunEnds};
+ghost use Rattle.tds_cells.specs.Runs.{EndsRun};
 ghost use Rattle.tds_rows.specs.MarkedPuts.{room_left};
-ghost use Rattle.tds_rows.specs.RowRuns.{MarkedRead, RunRead};
+ghost use Rattle.tds_rows.specs.RowRuns.{RunRead};
 ghost use Rattle.tds_cells.specs.RowFormats.{Knows};
 ghost use Rattle.tds_values.specs.Kind as kinds;
 
 use crate::cell::gathered::{LONGEST_CELL, gather_scalar, length_size};
 use crate::cell::streamed::stream_long;
 use std::io::{Read, Write};
-use tds_cells::{CELL_ROOM, CellFormat, Cursor, Layout, ROW, RowFormat};
+use tds_cells::{CELL_ROOM, CellFormat, Cursor, Layout, Nulls, ROW, RowFormat};
 use tds_csv::{Cp1252Joiner, HexJoiner, Joiner, Sink, Utf8Joiner, Utf16Joiner, joiners_suit};
 use tds_meter::Area;
 use tds_packet::{Fault, Payload, Stop};
 use tds_text::Content;
-use tds_values::{Reach, Span};
+use tds_values::Reach;
 
 /// The room for the text of a run that may go over the end of a block, or of a cell that no run took.
-pub(crate) const SCRATCH: usize = 256;
+const SCRATCH: usize = 256;
 
 /// The room in a block in which no run is begun, since its cells may want more: it goes on with a small text.
-pub(crate) const BLOCK_END: usize = 128;
+const BLOCK_END: usize = 128;
 
 /// The reading of rows: the payload, the sink, the area in which a cell is gathered, and the row format of the columns.
 #[derive(Drop)]
@@ -175,74 +174,55 @@ impl<'r, 't, 'p, 's, 'c, R: Read, W: Write> Rows<'r, 't, 'p, 's, 'c, R, W> {
             Layout::Chunked(content) => self.put_long(at, format, content, Reach::Chunked),
         }
     }
-
-    /// Passes over the bytes of a run within a row, and puts its text, which may go over the end of the block.
-    #[inline(always)]
-    pub(crate) fn put_made(&mut self, run: Span, text: &[u8]) -> Result<(), Stop>
-        requires in_row { IsInRow self.old }
-        requires used { run.used ≤ length (buffered self.old.payload.now) }
-        requires made { run.made ≤ length text.now }
-        ensures { (nulls : ℕ → Bool) (from to : Cursor) →
-            MarkedWritten self.old.row_format.now nulls from (buffered self.old.payload.now) text.now (cell_run run to) →
-            MarkedRead R.remaining W.contents nulls from to self.old self.new result }
-    {
-        self.payload.consume(run.used);
-        self.sink.put(&text[..run.made])
-    }
 }
 
 impl<'r, 't, 'p, 's, 'c, R: Read, W: Write> Rows<'r, 't, 'p, 's, 'c, R, W> {
-    // Reads the next cells, as many as are whole in the packet, aren't in several chunks and have room in the block, over the
-    // ends of rows, puts their text where it waits, and steps over them. Returns how many rows it began. It reads nothing and
-    // delivers nothing.
-    fn put_within(&mut self, at: &mut Cursor<'c>) -> u64
-        requires in_row { IsInRow self.old }
-        requires some { 0 < self.old.row_format.now.count }
+    // Reads the next cells, as many as are NULL by a bit or whole in the packet, aren't in several chunks and have room in the
+    // block, over the ends of ROWs, puts their text where it waits, and steps over them. Returns how many rows it began. It reads
+    // nothing and delivers nothing.
+    fn put_within(&mut self, at: &mut Cursor<'c>, nulls: Nulls) -> u64
+        requires in_row { IsInMarkedRow self.old nulls }
         requires room { length self.old.sink.now.output.now.bytes + CELL_ROOM < 4096 }
         ensures stays { StaysInRow self.old self.new }
         ensures few { self.old.payload.now.place + result ≤ self.new.payload.now.place }
-        ensures ends { RunEnds self.old.row_format.now at.new
+        ensures ends { EndsRun self.old.row_format.now nulls.entry at.new
             (buffered self.new.payload.now) (room_left self.new.sink.now) }
-        ensures last { EndsLast self.old.row_format.now at.new.column (buffered self.new.payload.now) }
-        ensures rows { RowsPut R.remaining W.contents self.old.row_format.now at.old at.new result
+        ensures cells { RunPut R.remaining W.contents self.old.row_format.now nulls.entry at.old at.new result
             self.old.payload.now self.new.payload.now self.old.sink.now self.new.sink.now }
     {
         let waiting = self.sink.waiting() as usize;
         let room = self.sink.room() - 1;
         let (bytes, spare) = (self.payload.buffered(), self.sink.spare(room));
-        let run = self.row_format.run_rows(at, bytes, spare);
+        let run = self.row_format.run(at, nulls, bytes, spare);
         self.payload.consume(run.used);
         self.sink.commit(waiting, run.made);
         run.rows as u64
     }
 
-    // Reads the next cells of the row, as many as are whole in the packet, aren't in several chunks and have room in a small
-    // text, puts that text over the end of the block, and steps over them.
-    fn put_via_scratch(&mut self, at: &mut Cursor<'c>) -> Result<(), Stop>
-        requires { IsInRow self.old }
-        ensures { MarkedRead R.remaining W.contents none_null at.old at.new self.old self.new result }
+    // Reads the next cells of the row, as many as are NULL by a bit or whole in the packet, aren't in several chunks and have room
+    // in a small text, puts that text over the end of the block, and steps over them. Begins no row.
+    fn put_via_scratch(&mut self, at: &mut Cursor<'c>, nulls: Nulls) -> Result<u64, Stop>
+        requires { IsInMarkedRow self.old nulls }
+        ensures { RunRead R.remaining W.contents nulls.entry at.old at.new self.old self.new result }
     {
         let mut text = [0u8; SCRATCH];
-        let end = self.row_format.count();
         let bytes = self.payload.buffered();
-        let run = self
-            .row_format
-            .run_cells::<false>(at, end, bytes, &mut text);
-        self.put_made(run, &text)
+        let run = self.row_format.run_in_row(at, nulls, bytes, &mut text);
+        self.payload.consume(run.used);
+        self.sink.put(&text[..run.made])?;
+        Ok(0)
     }
 
-    // Reads the next cells, as many as are whole in the packet, aren't in several chunks and have room, puts their text, and
-    // steps over them. Returns how many rows it began.
-    fn put_run(&mut self, at: &mut Cursor<'c>) -> Result<u64, Stop>
-        requires in_row { IsInRow self.old }
-        requires some { 0 < self.old.row_format.now.count }
-        ensures { RunRead R.remaining W.contents at.old at.new self.old self.new result }
+    /// Reads the next cells, as many as are NULL by a bit or whole in the packet, aren't in several chunks and have room, puts their
+    /// text, and steps over them. Returns how many rows it began.
+    pub(crate) fn put_run(&mut self, at: &mut Cursor<'c>, nulls: Nulls) -> Result<u64, Stop>
+        requires { IsInMarkedRow self.old nulls }
+        ensures { RunRead R.remaining W.contents nulls.entry at.old at.new self.old self.new result }
     {
-        if self.sink.room() > BLOCK_END {
-            return Ok(self.put_within(at));
+        if self.sink.room() <= BLOCK_END {
+            return self.put_via_scratch(at, nulls);
         }
-        self.put_via_scratch(at)?;
-        Ok(0)
+        Ok(self.put_within(at, nulls))
     }
 
     /// Reads a row cell after cell, and puts its line.
@@ -275,7 +255,7 @@ impl<'r, 't, 'p, 's, 'c, R: Read, W: Write> Rows<'r, 't, 'p, 's, 'c, R, W> {
         let mut ended: u64 = 0;
         loop {
             let place = self.payload.place();
-            ended += self.put_run(&mut at)?;
+            ended += self.put_run(&mut at, Nulls::Unmarked)?;
             if self.payload.place() > place && self.sink.room() <= BLOCK_END {
                 continue;
             }

@@ -16,7 +16,7 @@ pub loop-at-init : goal.loop-at-init
 loop-at-init g c =
     let sink = c.requires.some.in_row.sink in
     let x = c.in_ok-read_into.ensures.gives in
-    let bytes = ap (λ (s : N.Space). s.bytes) x.stands
+    let bytes = c.bytes.ensures.value ∙ ap (λ (s : N.Space). s.bytes) x.stands
     ∙ ap (λ (l : N.List N.ℕ). l ++ x.element) c.requires.awaits.empty in
     record {
       stays = record {
@@ -31,7 +31,7 @@ loop-at-init g c =
         small = record { room = refl; bound = omega arith };
       };
       knows = c.requires.some.knows;
-      fits = omega (arith, ap N.length bytes, x.whole, c.count.ensures);
+      covers = omega (arith, ap N.length bytes, x.whole, c.count.ensures);
       reads = λ columns knows.
           let whole = x.whole ∙ c.bitmap_size.ensures.value
           ∙ ap N.bitmap_length (c.count.ensures ∙ knows.counted) in
@@ -42,18 +42,18 @@ loop-at-init g c =
           (c.start-at.ensures.ahead columns knows, rw (c.start-at.ensures.first, bytes) near);
     }
 
-pub returns-in_err-put_nulls-clause-row : goal.returns-in_err-put_nulls-clause-row
-returns-in_err-put_nulls-clause-row g c =
+pub returns-in_err-put_run-clause-row : goal.returns-in_err-put_run-clause-row
+returns-in_err-put_run-clause-row g c =
     let l = c.loop-at in
-    rw (← l.invariant.stays.same.3) (λ columns knows. N.passed _ _ _ _ c.from_residual-in_err-put_nulls.ensures.1
-    (run_stops l.invariant.stays.in_row l.invariant.reads (rw c.bytes.ensures.value at c.in_err-put_nulls.ensures) columns knows))
+    rw (← l.invariant.stays.same.3) (λ columns knows. N.passed _ _ _ _ c.from_residual-in_err-put_run.ensures.1
+    (run_stops l.invariant.stays.in_row l.invariant.reads c.in_err-put_run.ensures columns knows))
 
-pub returns-in_err-put_nulls-clause-leaves : goal.returns-in_err-put_nulls-clause-leaves
-returns-in_err-put_nulls-clause-leaves g c = grind (arith, N.common_steps)
+pub returns-in_err-put_run-clause-leaves : goal.returns-in_err-put_run-clause-leaves
+returns-in_err-put_run-clause-leaves g c = grind (arith, N.common_steps)
 
 pub put_next-requires : goal.put_next-requires
 put_next-requires g c =
-    let kept = stays_after c.loop-at.invariant.stays.in_row c.in_ok-put_nulls.ensures.leaves in
+    let kept = stays_after c.loop-at.invariant.stays.in_row c.in_ok-put_run.ensures.leaves in
     record {
       in_row = kept.in_row;
       within = omega (arith, c.in-Some.ensures.further, c.in-Some.ensures.within);
@@ -63,9 +63,9 @@ put_next-requires g c =
 pub returns-in_err-put_next-clause-row : goal.returns-in_err-put_next-clause-row
 returns-in_err-put_next-clause-row g c =
     let l = c.loop-at in
-    let kept = stays_after l.invariant.stays.in_row c.in_ok-put_nulls.ensures.leaves in
-    let nears = run_near l.invariant.stays.in_row l.invariant.reads (rw c.bytes.ensures.value at c.in_ok-put_nulls.ensures) in
-    let is = rw c.bytes-in-loop-at.ensures.value at (sym c.is_null-null.ensures) in
+    let kept = stays_after l.invariant.stays.in_row c.in_ok-put_run.ensures.leaves in
+    let nears = run_near l.invariant.stays.in_row l.invariant.reads c.in_ok-put_run.ensures in
+    let is = sym c.is_null.ensures in
     rw (← (kept.same.3 ∙ l.invariant.stays.same.3)) (λ columns knows.
     let near = nears columns knows in
     N.passed _ _ _ _ c.from_residual-in_err-put_next.ensures.1
@@ -75,20 +75,20 @@ returns-in_err-put_next-clause-row g c =
 pub returns-in_err-put_next-clause-leaves : goal.returns-in_err-put_next-clause-leaves
 returns-in_err-put_next-clause-leaves g c =
     N.passed_on _ _ (λ r. N.LeavesRows c.args.self.now c.put_next.new.self r) c.from_residual-in_err-put_next.ensures.1
-    (leaves_after (stays_on c.loop-at.invariant.stays (stays_after c.loop-at.invariant.stays.in_row c.in_ok-put_nulls.ensures.leaves))
+    (leaves_after (stays_on c.loop-at.invariant.stays (stays_after c.loop-at.invariant.stays.in_row c.in_ok-put_run.ensures.leaves))
     c.in_err-put_next.ensures.leaves)
 
 pub loop-at-preserved : goal.loop-at-preserved
 loop-at-preserved g c =
     let l = c.loop-at in
-    let kept = stays_after l.invariant.stays.in_row c.in_ok-put_nulls.ensures.leaves in
+    let kept = stays_after l.invariant.stays.in_row c.in_ok-put_run.ensures.leaves in
     let done = c.in_ok-put_next.ensures in
-    let nears = run_near l.invariant.stays.in_row l.invariant.reads (rw c.bytes.ensures.value at c.in_ok-put_nulls.ensures) in
-    let is = rw c.bytes-in-loop-at.ensures.value at (sym c.is_null-null.ensures) in
+    let nears = run_near l.invariant.stays.in_row l.invariant.reads c.in_ok-put_run.ensures in
+    let is = sym c.is_null.ensures in
     record {
       stays = stays_on (stays_on l.invariant.stays kept) (stays_after kept.in_row done.leaves);
       knows = rw (sym (done.leaves.same.3 ∙ kept.same.3)) at l.invariant.knows;
-      fits = search arith;
+      covers = rw (sym (done.leaves.same.3 ∙ kept.same.3)) at l.invariant.covers;
       reads = λ columns known.
           let knows = rw done.leaves.same.3 at known in
           let near = nears columns knows in
@@ -99,8 +99,8 @@ loop-at-preserved g c =
 pub returns-in_default-clause-row : goal.returns-in_default-clause-row
 returns-in_default-clause-row g c =
     let l = c.loop-at in
-    let kept = stays_after l.invariant.stays.in_row c.in_ok-put_nulls.ensures.leaves in
-    let nears = run_near l.invariant.stays.in_row l.invariant.reads (rw c.bytes.ensures.value at c.in_ok-put_nulls.ensures) in
+    let kept = stays_after l.invariant.stays.in_row c.in_ok-put_run.ensures.leaves in
+    let nears = run_near l.invariant.stays.in_row l.invariant.reads c.in_ok-put_run.ensures in
     rw (← (kept.same.3 ∙ l.invariant.stays.same.3)) (λ columns knows.
     let near = nears columns knows in
     row_ends (all_put refl kept.in_row.sink.ready.2 (rw (c.in_default.ensures.taken columns knows near.0) at near.1)))

@@ -1,5 +1,5 @@
 use Rattle.tds_rows.proofs.rows.Rows.nbc_row.Given as goal
-use Rattle.tds_rows.proofs.Words.{◌*◌, ◌≤◌, ◌-◌, KnowsSome, StaysInRow, bit, length}
+use Rattle.tds_rows.proofs.Words.{◌-◌, Covers, KnowsSome, StaysInRow, nulls_of}
 use Rattle.tds_rows.proofs.NextSteps.{NearsAll}
 use Rattle.tds_rows.proofs.Paths.{here}
 
@@ -7,8 +7,8 @@ abbrev pub invariant-loop-at : goal.invariant-loop-at
 invariant-loop-at g l = record {
   stays : StaysInRow l.fn.self l.self;
   knows : KnowsSome l.self.row_format.now;
-  fits : l.self.row_format.now.count ≤ 8 * length l.bitmap.bytes;
-  reads : NearsAll g.R.Read.remaining g.W.Write.contents (bit l.bitmap.bytes) (here g.R.Read.remaining g.W.Write.contents l.fn.self) l.self l.at;
+  covers : Covers l.nulls l.self.row_format.now.count;
+  reads : NearsAll g.R.Read.remaining g.W.Write.contents (nulls_of l.nulls) (here g.R.Read.remaining g.W.Write.contents l.fn.self) l.self l.at;
 }
 
 abbrev pub decreases-loop-at : goal.decreases-loop-at
