@@ -1,7 +1,7 @@
 -- What is written piece by piece stands joined.
 use Rattle.tds_values.proofs.Words.{◌≡◌, ◌∙◌, ℕ, ◌+◌, ◌≤◌, List, ◌++◌, take, length, ap, arith, append_assoc, codes, length-append, length-take-le, sym}
 use Rattle.tds_values.proofs.Words.{take-append-add, take-take}
-use Rattle.tds_values.specs.ScalarText.{day_text}
+use Rattle.tds_values.specs.ScalarText.{march_text}
 
 pub joined : (t a b d x y : List ℕ) → x ≡ t ++ a → y ≡ x ++ b → d ≡ a ++ b → y ≡ t ++ d
 joined t a b d x y ex ey ed = rw (ey, ex, ed, append_assoc)
@@ -10,15 +10,15 @@ joined t a b d x y ex ey ed = rw (ey, ex, ed, append_assoc)
 pub end_of : (old new piece : List ℕ) (at r : ℕ) → at ≤ length old → r ≤ length new → take r new ≡ take at old ++ piece → r ≡ at + length piece
 end_of old new piece at r ho hn e = omega (arith, ap length e, length-append {A = ℕ}, length-take-le r new hn, length-take-le at old ho)
 
--- a month and a day, and a space after them
-pub spaced : (at r month day : ℕ) (old new bytes : List ℕ) → at ≤ length old → r ≡ at + 8 → take r new ≡ take at old ++ bytes
-    → bytes ≡ day_text month day ++ codes "  "
-    → (take (at + 6) new ≡ take at old ++ day_text month day) × (take (at + 6 + 1) new ≡ take (at + 6) new ++ codes " ")
-spaced at r month day old new bytes long end e is =
+-- the text of a day in a year from 1 March on, and a space after it
+pub spaced : (at r k : ℕ) (old new bytes : List ℕ) → at ≤ length old → r ≡ at + 8 → take r new ≡ take at old ++ bytes
+    → bytes ≡ march_text k ++ codes "  "
+    → (take (at + 6) new ≡ take at old ++ march_text k) × (take (at + 6 + 1) new ≡ take (at + 6) new ++ codes " ")
+spaced at r k old new bytes long end e is =
     let t = take at old in
     let size : length t ≡ at = length-take-le at old long in
-    let cut : (k : ℕ) → k ≤ 8 → take (at + k) new ≡ t ++ take k (day_text month day ++ codes "  ") = λ k h.
-    cc (end, e, is, size, take-take (at + k) (at + 8) new (omega arith), take-append-add t (day_text month day ++ codes "  ") k) in
+    let cut : (k' : ℕ) → k' ≤ 8 → take (at + k') new ≡ t ++ take k' (march_text k ++ codes "  ") = λ k' h.
+    cc (end, e, is, size, take-take (at + k') (at + 8) new (omega arith), take-append-add t (march_text k ++ codes "  ") k') in
     let seven : at + 6 + 1 ≡ at + 7 = omega arith in
     let six = cut 6 (omega arith) in
-    (six, ap (λ k. take k new) seven ∙ cut 7 (omega arith) ∙ sym (append_assoc t (day_text month day) (codes " ")) ∙ ap (λ x. x ++ codes " ") (sym six))
+    (six, ap (λ k. take k new) seven ∙ cut 7 (omega arith) ∙ sym (append_assoc t (march_text k) (codes " ")) ∙ ap (λ x. x ++ codes " ") (sym six))

@@ -5,6 +5,7 @@ pub mod HexTexts
 pub mod JiffDates
 pub mod Joining
 pub mod LocalLemmas
+pub mod MarchLemmas
 pub mod Rows
 pub mod TableLemmas
 pub mod TextLengths

@@ -1,9 +1,9 @@
 -- The tables of digits.
-use Rattle.tds_values.proofs.Words.{◌≡◌, ◌≤◌, ℕ, zero, suc, ◌+◌, ◌*◌, ◌/◌, ◌%◌, ◌^◌, ◌<◌, ◌==◌, true, refl, ap, ◌∙◌, arith, List, [], ◌++◌, length, take, drop}
+use Rattle.tds_values.proofs.Words.{◌≡◌, ℕ, zero, suc, ◌+◌, ◌*◌, ◌/◌, ◌%◌, ◌^◌, ◌<◌, ◌==◌, true, refl, ap, ◌∙◌, arith, List, [], ◌++◌, length, take, drop}
 use Rattle.tds_values.proofs.Words.{codes, get_or, agree_below, agree_below_at, eqb-true, hex_digit, lower, lower_digits, slice_index, add-zero, take_all}
 use Rattle.tds_values.proofs.Words.{take-append-le, last_digits, DAYS, FOUR_DIGITS, MINUTES}
 use Rattle.tds_values.proofs.TextLengths.{length-last_digits}
-use Rattle.tds_values.specs.ScalarText.{day_text, minutes_text}
+use Rattle.tds_values.specs.ScalarText.{march_text, minutes_text}
 use Rattle.tds_values.specs.declared.numbers.TheConstants.{POWERS}
 use Rattle.std.proofs.Math.Seq.{drop-append-add}
 
@@ -46,18 +46,13 @@ minutes = refl
 pub minute_at : (m k : ℕ) → m < 1440 → k ≡ 8 → take k (drop (8 * m) MINUTES) ≡ minutes_text m ++ codes ":" ++ last_digits 2 0
 minute_at m k h e = rw (e, minutes) (rw (add-zero m) at (text_at (λ m. minutes_text m ++ codes ":" ++ last_digits 2 0) 8 (λ m. refl) m 1440 0 h))
 
--- and those of 32 days of a month
-days : DAYS ≡ joined_from (λ d. day_text (d / 32) (d % 32) ++ codes "  ") 416 0
+-- and those of the days of a year from 1 March on
+days : DAYS ≡ joined_from (λ n. march_text n ++ codes "  ") 366 0
 unfolding joined_from
 days = refl
 
-pub day_at : (month day k : ℕ) → month ≤ 12 → day ≤ 31 → k ≡ 8 → take k (drop (8 * (32 * month + day)) DAYS) ≡ day_text month day ++ codes "  "
-day_at month day k low high e =
-    let n = 32 * month + day in
-    let there = text_at (λ d. day_text (d / 32) (d % 32) ++ codes "  ") 8 (λ d. refl) n 416 0 (omega arith) in
-    let m : (n + 0) / 32 ≡ month = omega arith in
-    let d : (n + 0) % 32 ≡ day = omega arith in
-    rw (e, days) (there ∙ cc (m, d))
+pub day_at : (n k : ℕ) → n < 366 → k ≡ 8 → take k (drop (8 * n) DAYS) ≡ march_text n ++ codes "  "
+day_at n k h e = rw (e, days) (rw (add-zero n) at (text_at (λ n. march_text n ++ codes "  ") 8 (λ n. refl) n 366 0 h))
 
 pub power_at : (scale : ℕ) → scale < 20 → get_or POWERS scale 0 ≡ 10 ^ scale
 power_at = each_below _ _ 20 refl

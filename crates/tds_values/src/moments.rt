@@ -1,39 +1,73 @@
 // The texts of dates and times, written to a slice from a place on.
-ghost use Rattle.std.specs.Prelude.{◌≡◌, ◌+◌, ◌<◌, ◌≤◌, ◌^◌, ◌++◌, codes, take, length, unsigned_abs};
-ghost use Rattle.tds_values.specs.ScalarText.{last_digits, date_text, day_text, seconds_text, minutes_text, fraction_text, ticks_text, offset_text, date_and_time};
+ghost use Rattle.std.specs.Prelude.{◌≡◌, ◌+◌, ◌<◌, ◌≤◌, ◌^◌, ◌++◌, codes, take, length, nat_lt, unsigned_abs, if◌then◌else◌};
+ghost use Rattle.tds_values.specs.Calendar.{days_before_year};
+ghost use Rattle.tds_values.specs.ScalarText.{last_digits, date_text, march_text, seconds_text, minutes_text, fraction_text, ticks_text, offset_text, date_and_time};
 ghost use Rattle.tds_values.specs.TimeOfDay.{IsClockTime};
 
 use crate::digits::{put_byte, put_end, put_of_four, put_piece};
 use crate::numbers::put_fraction;
 use crate::ranges::{LARGEST_OFFSET, LAST_DAY, MINUTES_A_DAY, SECONDS_A_DAY, TICKS_A_DAY};
 use crate::tables::{DAYS, MINUTES};
-use jiff_core::civil::Date;
 
-// How many days the first day of `jiff`, -9999-01-01, is before day 0.
-pub(crate) const DAYS_BEFORE_DAY_0: u32 = 3_652_425;
+// How many days a year has from 1 March on. So many come before day 0 from 1 March of the year before it on.
+const DAYS_FROM_MARCH: u32 = 306;
 
-// -MM-DD and two spaces.
+// The place of a day in a year that begins on 1 March, where a leap day comes last: in which year that is, and how many of
+// its days come before.
+#[derive(Clone, Copy)]
+struct MarchDay {
+    year: u32,
+    before: u32,
+}
+
+// Where a day lies, by centuries of such years and fours of them, each of which has no more days than the next (Neri and
+// Schneider, "Euclidean affine functions and their application to calendar algorithms").
 #[inline(always)]
-fn day_of(month: u32, day: u32) -> &'static [u8]
-    requires month { month ≤ 12 }
-    requires day { day ≤ 31 }
-    ensures { result.now ≡ day_text month day ++ codes "  " }
+fn march_day(day: u32) -> MarchDay
+    requires { day ≤ LAST_DAY }
+    ensures few { result.before < 366 }
+    ensures year { result.year ≤ 9999 }
+    ensures place { days_before_year (result.year + 1) + result.before ≡ day + 306 }
+    ensures within { day + 306 < days_before_year (result.year + 2) }
 {
-    let from = 8 * (32 * month + day) as usize;
+    let quarters = 4 * (day + DAYS_FROM_MARCH) + 3;
+    let century = quarters / 146_097;
+    let in_century = quarters % 146_097 / 4 * 4 + 3;
+    MarchDay {
+        year: 100 * century + in_century / 1461,
+        before: in_century % 1461 / 4,
+    }
+}
+
+// The calendar's year of a day in a year that begins on 1 March.
+#[inline(always)]
+fn calendar_year(day: MarchDay) -> u32
+    requires { day.year ≤ 9999 }
+    ensures { result ≡ day.year + (if nat_lt day.before 306 then 0 else 1) }
+{
+    day.year + u32::from(day.before >= DAYS_FROM_MARCH)
+}
+
+// -MM-DD and two spaces, of the day that comes so many days after 1 March.
+#[inline(always)]
+fn day_after_march(before: u32) -> &'static [u8]
+    requires { before < 366 }
+    ensures { result.now ≡ march_text before ++ codes "  " }
+{
+    let from = 8 * before as usize;
     &DAYS[from..from + 8]
 }
 
-// -MM-DD, and a space after it.
+// -MM-DD of the day that comes so many days after 1 March, and a space after it.
 #[inline(always)]
-fn put_day(to: &mut [u8], at: usize, month: u32, day: u32) -> usize
+fn put_day(to: &mut [u8], at: usize, before: u32) -> usize
     requires room { at + 8 ≤ length to.old }
-    requires month { month ≤ 12 }
-    requires day { day ≤ 31 }
+    requires day { before < 366 }
     ensures end { result ≡ at + 6 }
-    ensures written { take result to.new ≡ take at to.old ++ day_text month day }
+    ensures written { take result to.new ≡ take at to.old ++ march_text before }
     ensures space { take (result + 1) to.new ≡ take result to.new ++ codes " " }
 {
-    put_piece::<8>(to, at, day_of(month, day));
+    put_piece::<8>(to, at, day_after_march(before));
     at + 6
 }
 
@@ -46,9 +80,9 @@ pub(crate) fn put_date(to: &mut [u8], at: usize, day: u32) -> usize
     ensures written { take result to.new ≡ take at to.old ++ date_text day }
     ensures space { take (result + 1) to.new ≡ take result to.new ++ codes " " }
 {
-    let date = Date::from_days_since_min(day + DAYS_BEFORE_DAY_0);
-    let at = put_of_four::<4>(to, at, date.year.unsigned_abs() as u32);
-    put_day(to, at, date.month as u32, date.day as u32)
+    let place = march_day(day);
+    let at = put_of_four::<4>(to, at, calendar_year(place));
+    put_day(to, at, place.before)
 }
 
 // HH:MM:00.

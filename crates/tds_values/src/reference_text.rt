@@ -7,7 +7,6 @@ ghost use Rattle.uuid.specs.Text.{hyphenated_text, lower};
 ghost use Rattle.tds_values.specs.ScalarText.{last_digits, fraction_text, decimal_text, date_text, minutes_text, seconds_text, time_text, date_and_time, offset_text, ticks_text, minus_if, text_of};
 ghost use Rattle.tds_values.specs.ScalarRange.{is_in_range};
 
-use crate::moments::DAYS_BEFORE_DAY_0;
 use crate::ranges::{
     DAY_OF_1900, LAST_DAY, SECONDS_A_DAY, SECONDS_OF_ALL_DAYS, TICKS_A_DAY, local_seconds,
     seconds_in,
@@ -18,6 +17,9 @@ use arrayvec::ArrayVec;
 use itoa::Buffer;
 use jiff_core::civil::Date;
 use uuid::Uuid;
+
+// How many days the first day of `jiff`, -9999-01-01, is before day 0.
+const DAYS_BEFORE_DAY_0: u32 = 3_652_425;
 
 /// Room for the text of any scalar value.
 pub type ScalarText = ArrayVec<u8, TEXT_ROOM>;
