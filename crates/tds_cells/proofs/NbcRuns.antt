@@ -18,15 +18,15 @@ module _ (used size : ℕ) (bytes : List ℕ) where
       → 0 < length (unused u cells) → N.get_or (unused u cells) 0 0 ≡ N.token_byte N.NbcRow → length bitmap ≡ N.bitmap_length (length columns)
       → N.WritesNbcRows charset columns n (N.take used bytes) (N.take made to)
       → N.WritesMarked charset columns (N.bit bitmap) 0 (length columns) (N.take u cells) (N.take m text)
-      → N.WritesNbcRows charset columns (n + 1) (N.take (used + (size + u + 1)) bytes) (N.take (made + m) (N.take made to ++ (text ++ left)))
+      → N.WritesNbcRows charset columns (n + 1) (N.take (used + (size + u) + 1) bytes) (N.take (made + m) (N.take made to ++ (text ++ left)))
   nbc_row_more charset columns n u made m to text left within fits more next whole before row =
       let row_bytes : N.take (size + (u + 1)) (unused used bytes) ≡ (bitmap ++ N.take u cells) ++ N.token_byte N.NbcRow ∷ [] =
       used_more size (u + 1) (unused used bytes) ∙ ap (λ l. bitmap ++ l) (used_more u 1 cells
       ∙ ap (λ l. N.take u cells ++ l) (N.take_more (unused u cells) 0 0 more ∙ ap (λ b. b ∷ []) next))
       ∙ sym (N.append_assoc bitmap (N.take u cells) _) in
-      let place : used + (size + u + 1) ≡ used + (size + (u + 1)) = omega arith in
+      let place : used + (size + u) + 1 ≡ used + (size + (u + 1)) = omega arith in
       let suc : N.suc n ≡ n + 1 = omega arith in
-      N.subst (λ k. N.WritesNbcRows charset columns k (N.take (used + (size + u + 1)) bytes) (N.take (made + m) (N.take made to ++ (text ++ left)))) suc (
+      N.subst (λ k. N.WritesNbcRows charset columns k (N.take (used + (size + u) + 1) bytes) (N.take (made + m) (N.take made to ++ (text ++ left)))) suc (
         N.take used bytes,
         bitmap ++ N.take u cells,
         N.take made to,
@@ -37,15 +37,29 @@ module _ (used size : ℕ) (bytes : List ℕ) where
         record { bitmap = bitmap; cells = N.take u cells; joined = refl; whole = whole; writes = row },
       )
 
+  -- the last, which no other follows
+  pub nbc_row_last : (charset : Charset) (columns : List Column) (n u made m : ℕ) (to text left : List ℕ) → made ≤ length to → m ≤ length text
+      → length bitmap ≡ N.bitmap_length (length columns) → N.WritesNbcRows charset columns n (N.take used bytes) (N.take made to)
+      → N.WritesMarked charset columns (N.bit bitmap) 0 (length columns) (N.take u cells) (N.take m text)
+      → N.WritesWholeRows charset columns n N.true (N.take (used + (size + u)) bytes) (N.take (made + m) (N.take made to ++ (text ++ left)))
+  nbc_row_last charset columns n u made m to text left within fits whole before row = (
+    N.take used bytes,
+    bitmap ++ N.take u cells,
+    N.take made to,
+    N.take m text,
+    used_more used (size + u) bytes ∙ ap (λ l. N.take used bytes ++ l) (used_more size u (unused used bytes)),
+    made_more made m to text left within fits,
+    before,
+    record { bitmap = bitmap; cells = N.take u cells; joined = refl; whole = whole; writes = row },
+  )
+
   -- the row after them isn't written so
   pub nbc_rows_end : (row_format : N.RowFormat) (start : Cursor) (made : ℕ) (to text : List ℕ) (run : N.CellRun) → size ≡ N.bitmap_length row_format.count
       → start.column ≡ 0 → N.MarkedWritten row_format (N.bit bitmap) start cells text run
       → N.EndsFar row_format (N.bit bitmap) run.ahead (drop run.used cells) (length (unused made to) - run.made)
-      → N.◌⊎◌ (run.ahead.column ≡ row_format.count → ⊥) (N.BeginNoRow N.NbcRow (unused run.used cells))
-      → N.EndsNbcRows row_format (N.bitmap_length row_format.count) (drop used bytes) (length to - made)
+      → (run.ahead.column ≡ row_format.count → ⊥) → N.EndsNbcRows row_format (N.bitmap_length row_format.count) N.false (drop used bytes) (length to - made)
   nbc_rows_end row_format start made to text run size_is first wrote far end =
       let all = N.all_after bytes used in
       let rest = N.all_after (drop used bytes) size in
       let room = ap length (N.all_after to made) ∙ N.length-drop made to in
-      let last = rw (N.all_after cells run.used, all, rest) at end in
-      N.inr (start, run, text, first, rw (all, rest, size_is) at wrote, rw (all, rest, room, size_is) at far, rw size_is at last)
+      N.inr (start, run, text, first, rw (all, rest, size_is) at wrote, rw (all, rest, room, size_is) at far, end)

@@ -1,8 +1,8 @@
 -- What a run over NBCROWs does, which lie whole in the packet.
-use Rattle.std.specs.Prelude.{◌≡◌, ◌⊎◌, ◌-◌, ◌<◌, ℕ, zero, suc, List, [], ◌∷◌, ◌++◌, length, take, drop}
+use Rattle.std.specs.Prelude.{◌≡◌, ◌⊎◌, ◌-◌, ◌<◌, ℕ, zero, suc, Bool, false, true, List, [], ◌∷◌, ◌++◌, length, take, drop}
 use Rattle.tds_values.specs.declared.charset.Charset.{Charset}
 use Rattle.tds_columns.specs.Description.{Column}
-use Rattle.tds_cells.specs.declared.run.RowsSpan.{RowsSpan}
+use Rattle.tds_cells.specs.declared.nulls.WholeRows.{WholeRows}
 use Rattle.tds_cells.specs.declared.row_format.Cursor.{Cursor}
 use Rattle.tds_cells.specs.declared.row_format.RowFormat.{RowFormat}
 use Rattle.tds_cells.specs.MarkedRuns.{CellRun, EndsFar, MarkedWritten, WritesMarked}
@@ -25,14 +25,21 @@ WritesNbcRows charset columns (suc n) bytes text = (front : List ℕ) × (row : 
     × (bytes ≡ front ++ (row ++ token_byte NbcRow ∷ [])) × (text ≡ before ++ line) × WritesNbcRows charset columns n front before
     × WritesNbcRow charset columns row line
 
--- A run wrote the lines of the NBCROWs that it used.
-abbrev pub NbcRowsWritten : RowFormat → List ℕ → List ℕ → RowsSpan → Type 0
-NbcRowsWritten row_format bytes text run = (columns : List Column) → Knows row_format columns →
-    WritesNbcRows row_format.charset columns run.rows (take run.used bytes) (take run.made text)
+-- The bytes are so many, and one more if that is the last, and these are their lines.
+abbrev pub WritesWholeRows : Charset → List Column → ℕ → Bool → List ℕ → List ℕ → Type 0
+WritesWholeRows charset columns n false bytes text = WritesNbcRows charset columns n bytes text
+WritesWholeRows charset columns n true bytes text = (front : List ℕ) × (row : List ℕ) × (before : List ℕ) × (line : List ℕ)
+    × (bytes ≡ front ++ row) × (text ≡ before ++ line) × WritesNbcRows charset columns n front before × WritesNbcRow charset columns row line
 
--- The next NBCROW can't be written so: its bitmap isn't whole, the run over its cells ends before the row does, or that of another doesn't follow.
-abbrev pub EndsNbcRows : RowFormat → ℕ → List ℕ → ℕ → Type 0
-EndsNbcRows row_format size bytes room = (length bytes < size) ⊎ ((from : Cursor) × (run : CellRun) × (text : List ℕ) × (from.column ≡ 0)
+-- A run wrote the lines of the NBCROWs that it used.
+abbrev pub NbcRowsWritten : RowFormat → List ℕ → List ℕ → WholeRows → Type 0
+NbcRowsWritten row_format bytes text run = (columns : List Column) → Knows row_format columns →
+    WritesWholeRows row_format.charset columns run.span.rows run.last (take run.span.used bytes) (take run.span.made text)
+
+-- No NBCROW follows the last one; or the next one can't be written so: its bitmap isn't whole, or the run over its cells ends before the row does.
+abbrev pub EndsNbcRows : RowFormat → ℕ → Bool → List ℕ → ℕ → Type 0
+EndsNbcRows row_format size true bytes room = BeginNoRow NbcRow bytes
+EndsNbcRows row_format size false bytes room = (length bytes < size) ⊎ ((from : Cursor) × (run : CellRun) × (text : List ℕ) × (from.column ≡ 0)
     × MarkedWritten row_format (bit (take size bytes)) from (drop size bytes) text run
     × EndsFar row_format (bit (take size bytes)) run.ahead (drop run.used (drop size bytes)) (room - run.made)
-    × ((run.ahead.column ≡ row_format.count → ⊥) ⊎ BeginNoRow NbcRow (drop run.used (drop size bytes))))
+    × (run.ahead.column ≡ row_format.count → ⊥))

@@ -21,7 +21,7 @@ mod run;
 mod whole;
 
 pub use layout::{CellFormat, Layout};
-pub use nulls::{NBCROW, Nulls, bitmap_size};
+pub use nulls::{NBCROW, Nulls, WholeRows, bitmap_size};
 pub use row_format::{
     Cursor, FEW_COLUMNS, Learnt, MANY_COLUMNS, ROW, RowFormat, SOME_COLUMNS, blank,
 };

@@ -134,6 +134,13 @@ fn write_nulls(bitmap: &[u8], column: u16, count: u16, most: usize, to: &mut [u8
     }
 }
 
+/// A run over whole NBCROWs: those before the token byte of another, and whether one more is the last, which no other follows.
+#[derive(Clone, Copy)]
+pub struct WholeRows {
+    pub span: RowsSpan,
+    pub last: bool,
+}
+
 impl<'a> RowFormat<'a> {
     // Writes cell after cell of an NBCROW whose columns the row format all knows, as `run_nbc` does, as long as bytes and room go
     // on far enough for any scalar.
@@ -184,16 +191,16 @@ impl<'a> RowFormat<'a> {
         Span { used, made }
     }
 
-    /// Writes NBCROW after NBCROW, each with the token byte of the next, as long as each of their cells is as `run_far_marked`
-    /// takes it.
+    /// Writes NBCROW after NBCROW as long as each of their cells is as `run_far_marked` takes it, each with the token byte of the
+    /// next, or the last without one.
     #[inline(never)]
-    pub fn run_far_rows(&self, bytes: &[u8], to: &mut [u8]) -> RowsSpan
+    pub fn run_far_rows(&self, bytes: &[u8], to: &mut [u8]) -> WholeRows
         requires known { KnowsAll self.now }
-        ensures used { result.used ≤ length bytes.now }
-        ensures made { result.made ≤ length to.old }
-        ensures few { result.rows ≤ result.used }
-        ensures ends { EndsNbcRows self.now (bitmap_length self.now.count) (drop result.used bytes.now)
-            (length to.old - result.made) }
+        ensures used { result.span.used ≤ length bytes.now }
+        ensures made { result.span.made ≤ length to.old }
+        ensures few { result.span.rows ≤ result.span.used }
+        ensures ends { EndsNbcRows self.now (bitmap_length self.now.count) result.last
+            (drop result.span.used bytes.now) (length to.old - result.span.made) }
         ensures rows { NbcRowsWritten self.now bytes.now to.new result }
     {
         let size = bitmap_size(self.count());
@@ -209,15 +216,22 @@ impl<'a> RowFormat<'a> {
             if !self.is_end(at) {
                 break;
             }
+            whole.used += size + run.used;
+            whole.made += run.made;
             let after = &cells[run.used..];
             if after.is_empty() || after[0] != NBCROW {
-                break;
+                return WholeRows {
+                    span: whole,
+                    last: true,
+                };
             }
-            whole.used += size + run.used + 1;
-            whole.made += run.made;
+            whole.used += 1;
             whole.rows += 1;
         }
-        whole
+        WholeRows {
+            span: whole,
+            last: false,
+        }
     }
 
     // Writes cell after cell of an NBCROW as `run_nbc` does. `KNOWN` says that the row format knows all columns.

@@ -446,25 +446,51 @@ module _ {charset : Charset} {columns : List Column} where
       let counted : count + N.suc n ≡ count + n + 1 = omega arith in
       rw counted (rows_token some read (takes_one u.0.seen q.seen token u.2.takes) u.2.puts u.2.place_is)
 
+  -- and so was one more, which no other follows
+  rows_whole_last : (n : ℕ) {o : At} {count : ℕ} (p q : At) (bytes text : List ℕ) → 0 < length columns → length p.held.waiting < 4096
+      → q.held.delivered ≤ 2 ^ 64 - 1
+      → N.WritesWholeRows charset columns n N.true bytes text → Passes p q bytes text → RowsAt N.NbcRow charset columns o p count (N.nbc_row_start columns)
+      → over (N.ReadsRows N.NbcRow charset columns (count + n + 1)) o q
+  rows_whole_last n p q _ _ some few delivered (front, row, earlier_text, line, joined, text_is, earlier, last) y x =
+      let t = passes_apart p q front row earlier_text line (rw (joined, text_is) at y) in
+      let joined_line = N.subst (λ l. Passes t.0 q l line) last.joined t.2 in
+      rows_row (rows_marked n p t.0 front earlier_text some few earlier t.1 x)
+      (whole_row {p = t.0} {q = q} last.bitmap last.cells line some last.whole joined_line t.1.few delivered last.writes)
+
 -- NBCROWs were read and their lines put, this many, and the token byte of one more, whatever columns the row format knows.
 abbrev pub NbcRowsHere : {R W : Type 0} → (R → Option (List ℕ)) → (W → Option (List ℕ)) → At → Rows R W → ℕ → Type 0
 NbcRowsHere remaining contents p rows count = (columns : List Column) → Knows rows.row_format.now columns
     → RowsAt N.NbcRow rows.row_format.now.charset columns p (here remaining contents rows) count (N.nbc_row_start columns)
 
-pub rows_taken : {R W : Type 0} {remaining : R → Option (List ℕ)} {contents : W → Option (List ℕ)} {p : At} {old new : Rows R W} {count n : ℕ}
-    → IsInRow old → StaysInRow old new → 0 < old.row_format.now.count
-    → ((columns : List Column) → Knows old.row_format.now columns → N.RowsTaken remaining contents columns old new n)
-    → NbcRowsHere remaining contents p old count → NbcRowsHere remaining contents p new (count + n)
-rows_taken {remaining = remaining} {contents = contents} {old = old} {new = new} {n = n} in_row stays some taken reads columns known =
-    let knows = rw stays.same.3 at known in
-    let x = taken columns knows in
-    let sink = stays.in_row.sink in
-    rw stays.same.3 (rows_marked n (here remaining contents old) (here remaining contents new) _ _ (omega (arith, knows.counted))
-    (in_row.sink.ready.1 in_row.sink.writing) x.writes (record {
-      takes = x.takes;
-      between = N.between_of remaining new.payload.now stays.in_row.payload.going;
-      puts = x.puts;
-      few = sink.ready.1 sink.writing;
-      delivered = in_row.sink.ready.2;
-      place_is = x.place_is;
-    }) (reads columns knows))
+module _ {R W : Type 0} {remaining : R → Option (List ℕ)} {contents : W → Option (List ℕ)} {old new : Rows R W} (in_row : IsInRow old)
+    (stays : StaysInRow old new) where
+  taken_passes : {columns : List Column} {n : ℕ} {last : Bool} (x : N.RowsTaken remaining contents columns old new n last)
+      → Passes (here remaining contents old) (here remaining contents new) x.bytes x.text
+  taken_passes x = let sink = stays.in_row.sink in record {
+    takes = x.takes;
+    between = N.between_of remaining new.payload.now stays.in_row.payload.going;
+    puts = x.puts;
+    few = sink.ready.1 sink.writing;
+    delivered = in_row.sink.ready.2;
+    place_is = x.place_is;
+  }
+
+  module _ {p : At} {count n : ℕ} {last : Bool} (some : 0 < old.row_format.now.count)
+      (taken : (columns : List Column) → Knows old.row_format.now columns → N.RowsTaken remaining contents columns old new n last)
+      (reads : NbcRowsHere remaining contents p old count) where
+    -- another follows
+    pub rows_taken : last ≡ N.false → NbcRowsHere remaining contents p new (count + n)
+    rows_taken more columns known =
+        let knows = rw stays.same.3 at known in
+        let x = taken columns knows in
+        rw stays.same.3 (rows_marked n _ _ _ _ (omega (arith, knows.counted)) (in_row.sink.ready.1 in_row.sink.writing) (rw more at x.writes)
+        (taken_passes x) (reads columns knows))
+
+    -- no other follows
+    pub rows_last : last ≡ N.true → (columns : List Column) → Knows new.row_format.now columns
+        → over (N.ReadsRows N.NbcRow new.row_format.now.charset columns (count + n + 1)) p (here remaining contents new)
+    rows_last end columns known =
+        let knows = rw stays.same.3 at known in
+        let x = taken columns knows in
+        rw stays.same.3 (rows_whole_last n _ _ _ _ (omega (arith, knows.counted)) (in_row.sink.ready.1 in_row.sink.writing) stays.in_row.sink.ready.2 (rw end at x.writes)
+        (taken_passes x) (reads columns knows))

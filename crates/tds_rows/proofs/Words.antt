@@ -77,7 +77,7 @@ pub use Rattle.tds_cells.specs.MarkedRuns.{WritesColumn, WritesMarked}
 pub use Rattle.tds_cells.specs.MarkedRuns.{WritesNext}
 pub use Rattle.tds_rows.specs.PassedCells.{CellPassed, StepsOver, StopsPassing, IsGoodValue, CutsPassing, return_cell, PassesData, PassesCell, AnyData}
 pub use Rattle.tds_rows.specs.RowRuns.{RunRead}
-pub use Rattle.tds_cells.specs.MarkedRows.{WritesNbcRows}
+pub use Rattle.tds_cells.specs.MarkedRows.{WritesNbcRows, WritesWholeRows}
 pub use Rattle.tds_rows.specs.RowReading.{CellRead, KindRead, LeavesRows, IsInRow, RowsTaken, StaysInRow, NextRead}
 pub use Rattle.tds_rows.specs.RowSteps.{ReadsRow, ReadsRows, RowsRead, RowStops, RowsStop}
 pub use Rattle.tds_cells.specs.Rows.{marked, WholeRow, bitmap_length, bit, RowToken, Bitmap, PlainRow, with_cell, RowPart}

@@ -17,7 +17,7 @@ use Rattle.tds_cells.specs.Cells.{CellPart}
 use Rattle.tds_meter.specs.Space.{Space}
 use Rattle.tds_rows.specs.CellSteps.{CellPut, FieldPut, LeavesSmall, longest_cell}
 use Rattle.tds_cells.specs.Rows.{RowPart, RowToken, longest_bitmap, token_byte}
-use Rattle.tds_cells.specs.MarkedRows.{WritesNbcRows}
+use Rattle.tds_cells.specs.MarkedRows.{WritesWholeRows}
 use Rattle.tds_cells.specs.MarkedRuns.{Covers}
 use Rattle.tds_cells.specs.declared.nulls.Nulls.{Nulls}
 use Rattle.tds_rows.specs.RowSteps.{RowPut}
@@ -127,12 +127,13 @@ abbrev pub RowRead : {R W U : Type 0} → (R → Option (List ℕ)) → (W → O
 RowRead remaining contents start old new result =
     RowPut remaining contents old.row_format.now.charset start old.payload.now new.payload.now old.sink.now new.sink.now result
 
--- This many NBCROWs were read from this state on, without a packet, each before the token byte of the next, which was read too; and their lines were put.
+-- This many NBCROWs were read from this state on, without a packet, each before the token byte of the next, which was read too, and one more if that is
+-- the last; and their lines were put.
 pub record RowsTaken {R W : Type 0} (remaining : R → Option (List ℕ)) (contents : W → Option (List ℕ)) (columns : List Column) (old new : Rows R W)
-    (count : ℕ) : Type 0 where
+    (count : ℕ) (last : Bool) : Type 0 where
   pub bytes : List ℕ
   pub text : List ℕ
-  pub writes : WritesNbcRows old.row_format.now.charset columns count bytes text
+  pub writes : WritesWholeRows old.row_format.now.charset columns count last bytes text
   pub takes : Takes (seen remaining old.payload.now) (seen remaining new.payload.now) bytes 0
   pub puts : Puts (held contents old.sink.now) (held contents new.sink.now) text
   pub place_is : new.payload.now.place ≡ old.payload.now.place + length bytes

@@ -1,7 +1,8 @@
 // A row with a bitmap of the columns that are NULL, and such rows after one another (MS-TDS, NBCROW).
-ghost use Rattle.std.specs.Prelude.{◌*◌, ◌<◌, ◌≤◌, ◌+◌, ◌-◌, List, IfOk};
-ghost use Rattle.tds_cells.specs.Rows.{NbcRow, longest_bitmap, nbc_row_start};
+ghost use Rattle.std.specs.Prelude.{true, ◌≡◌, ◌<◌, ◌≤◌, ◌+◌, List, IfOk};
+ghost use Rattle.tds_cells.specs.Rows.{BeginNoRow, NbcRow, longest_bitmap, nbc_row_start};
 ghost use Rattle.tds_columns.specs.Description.{Column};
+ghost use Rattle.tds_packet.specs.Payloads.{buffered};
 ghost use Rattle.tds_packet.specs.Reads.{KeepsRoom};
 ghost use Rattle.tds_rows.specs.RowReading.{AwaitsBitmap, IsAtCell, EndsRows, IsInSomeRow, LeavesRows, NextRead, RowRead, RowsTaken, StaysInRow};
 ghost use Rattle.tds_rows.specs.RowSteps.{RowsRead};
@@ -21,28 +22,41 @@ const SHORT_CELL: usize = 4;
 /// The most bytes that a bitmap has. A call that reads NBCROWs needs room for it in the bitmap's area.
 pub const LONGEST_BITMAP: usize = 8192;
 
+// How many NBCROWs were put whose next one's token byte was taken, and whether one more was, which no other follows.
+#[derive(Clone, Copy)]
+struct PutRows {
+    rows: u64,
+    last: bool,
+}
+
 impl<'r, 't, 'p, 's, 'c, R: Read, W: Write> Rows<'r, 't, 'p, 's, 'c, R, W> {
-    // Puts the lines of the next NBCROWs, as many as are whole in the packet, away from its end, with the token byte of
-    // another, and have room in the block. Returns how many those are; the token byte of each but the first is taken, and
-    // that of another. It reads nothing and delivers nothing.
+    // Puts the lines of the next NBCROWs, as many as are whole in the packet, away from its end, and have room in the block,
+    // and takes the token byte after each but the last. It reads nothing and delivers nothing.
     #[inline(always)]
-    fn put_whole_rows(&mut self) -> u64
+    fn put_whole_rows(&mut self) -> PutRows
         requires { IsInSomeRow self.old }
         ensures stays { StaysInRow self.old self.new }
-        ensures few { self.old.payload.now.place + result ≤ self.new.payload.now.place }
+        ensures few { self.old.payload.now.place + result.rows ≤ self.new.payload.now.place }
+        ensures none { result.last ≡ true → BeginNoRow NbcRow (buffered self.new.payload.now) }
         ensures rows { (columns : List Column) → Knows self.old.row_format.now columns →
-            RowsTaken R.remaining W.contents columns self.old self.new result }
+            RowsTaken R.remaining W.contents columns self.old self.new result.rows result.last }
     {
         let room = self.sink.room() - 1;
         if !self.row_format.knows_all() || room < SHORT_CELL * self.row_format.count() as usize {
-            return 0;
+            return PutRows {
+                rows: 0,
+                last: false,
+            };
         }
         let waiting = self.sink.waiting() as usize;
         let (bytes, spare) = (self.payload.buffered(), self.sink.spare(room));
         let run = self.row_format.run_far_rows(bytes, spare);
-        self.payload.consume(run.used);
-        self.sink.commit(waiting, run.made);
-        run.rows as u64
+        self.payload.consume(run.span.used);
+        self.sink.commit(waiting, run.span.made);
+        PutRows {
+            rows: run.span.rows as u64,
+            last: run.last,
+        }
     }
 
     // Puts the next cell: NULL, or the cell that it reads.
@@ -95,8 +109,12 @@ impl<'r, 't, 'p, 's, 'c, R: Read, W: Write> Rows<'r, 't, 'p, 's, 'c, R, W> {
     {
         let mut ended: u64 = 0;
         loop {
-            ended += self.put_whole_rows();
             bitmap.clear();
+            let whole = self.put_whole_rows();
+            ended += whole.rows;
+            if whole.last {
+                return Ok(ended + 1);
+            }
             self.nbc_row(bitmap)?;
             ended += 1;
             if !self.take_token(NBCROW) {

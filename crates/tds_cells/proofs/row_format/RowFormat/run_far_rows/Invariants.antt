@@ -8,7 +8,8 @@ invariant-loop-rest l = record {
   made : l.whole.made ≤ N.length l.to;
   room : N.length l.to ≡ N.length l.fn.to;
   few : l.whole.rows ≤ l.whole.used;
-  rows : N.NbcRowsWritten l.fn.self l.fn.bytes l.to l.whole;
+  rows : (columns : N.List N.Column) → N.Knows l.fn.self columns
+      → N.WritesNbcRows l.fn.self.charset columns l.whole.rows (N.take l.whole.used l.fn.bytes) (N.take l.whole.made l.to);
 }
 
 abbrev pub decreases-loop-rest : goal.decreases-loop-rest

@@ -10,12 +10,12 @@ returns-clause-rows g c = λ columns knows.
     let taken : N.List N.ℕ → Type 0 = λ l. N.Takes (N.seen g.R.Read.remaining c.args.self.now.payload.now)
     (N.seen g.R.Read.remaining c.consume.new.self) l 0 in
     record {
-      bytes = take run.used bytes;
-      text = take run.made c.run_far_rows-run.new.to;
+      bytes = take run.span.used bytes;
+      text = take run.span.made c.run_far_rows-run.new.to;
       writes = c.run_far_rows-run.ensures.rows columns knows;
-      takes = N.subst taken (ap (take run.used) (sym c.buffered-bytes.ensures)) c.consume.ensures.gives;
-      puts = kept_text _ _ _ _ _ c.run_far_rows-run.auto.to c.waiting-waiting.ensures run.made c.commit.ensures.gives;
-      place_is = omega (arith, ap (λ p. p.place) c.consume.ensures.rest, length-take-le run.used bytes c.run_far_rows-run.ensures.used);
+      takes = N.subst taken (ap (take run.span.used) (sym c.buffered-bytes.ensures)) c.consume.ensures.gives;
+      puts = kept_text _ _ _ _ _ c.run_far_rows-run.auto.to c.waiting-waiting.ensures run.span.made c.commit.ensures.gives;
+      place_is = omega (arith, ap (λ p. p.place) c.consume.ensures.rest, length-take-le run.span.used bytes c.run_far_rows-run.ensures.used);
     }
 
 pub returns-then-not-knows_all-clause-rows : goal.returns-then-not-knows_all-clause-rows
