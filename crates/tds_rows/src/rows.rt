@@ -143,7 +143,8 @@ impl<'r, 't, 'p, 's, 'c, R: Read, W: Write> Rows<'r, 't, 'p, 's, 'c, R, W> {
         }
     }
 
-    // Reads the next cell, a long value of this content, and puts its field.
+    // Reads the next cell, a long value of this content, and puts its field. A run that had more room than a small text has left
+    // it already.
     fn put_long(
         &mut self,
         at: Cursor<'c>,
@@ -156,6 +157,9 @@ impl<'r, 't, 'p, 's, 'c, R: Read, W: Write> Rows<'r, 't, 'p, 's, 'c, R, W> {
         ensures { CellRead R.remaining W.contents at.entry format.now.kind self.old self.new result }
     {
         let last = self.row_format.is_last(at);
+        if self.sink.room() > SCRATCH {
+            return self.put_joined(content, reach, at.column, last);
+        }
         match self.put_whole(at, format) {
             Some(put) => put,
             None => self.put_joined(content, reach, at.column, last),
