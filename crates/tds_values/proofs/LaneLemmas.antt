@@ -3,6 +3,8 @@ use Rattle.tds_values.proofs.Words.{◌≡◌, ℕ, ◌+◌, ◌/◌, ◌%◌, �
 use Rattle.tds_values.proofs.Words.{Fits, w8, Each1, slice_index, swz_l, encode_lower, lower_digits, pick_l_left, ap, ◌∙◌, take, drop, replicate, put_chunk}
 use Rattle.tds_values.proofs.Words.{put_chunk_is, length-put_chunk, length-take-le, take-append-add, take-append-le}
 use Rattle.tds_values.proofs.TableLemmas.{hex_at}
+use Rattle.std.specs.Int.Bits.{bit_or, or_zero_r}
+use lib.Lanes.{zip2}
 use Rattle.hex.specs.Hex.{encode_with}
 use Rattle.uuid.specs.Parts.{swap_fields}
 use Rattle.uuid.specs.Text.{by_index, hyphenated_text, simple_text}
@@ -59,16 +61,18 @@ guid_digits v long fits = ap encode_lower (pick_l_left 0 v v 16 (3 ∷ 2 ∷ 1 �
 pub taken_put : (i n : ℕ) (xs ys : List ℕ) → n ≤ length ys → i + length ys ≤ length xs → take (i + n) (put_chunk i xs ys) ≡ take i xs ++ take n ys
 taken_put i n xs ys within room = grind (arith, length-take-le, put_chunk_is, take-append-add, take-append-le)
 
--- lanes at places, where a place from 16 on is a hyphen's
-abbrev hyphened : List ℕ → List ℕ → List ℕ
-hyphened lanes places = map (λ k. get_or (lanes ++ replicate 16 45) k 0) places
+-- lanes at places, where nothing is at a place from 16 on, and bytes for the others
+abbrev spread : List ℕ → List ℕ → List ℕ → List ℕ
+spread lanes places others = zip2 bit_or (map (λ k. get_or (lanes ++ replicate 16 0) k 0) places) others
 
 -- digits of the first half of a GUID between hyphens, and those of the second after one
 abbrev pub middle_of : List ℕ → List ℕ
-middle_of first = hyphened first (16 ∷ 8 ∷ 9 ∷ 10 ∷ 11 ∷ 16 ∷ 12 ∷ 13 ∷ 14 ∷ 15 ∷ 16 ∷ 0 ∷ 0 ∷ 0 ∷ 0 ∷ 0 ∷ [])
+middle_of first = spread first (16 ∷ 8 ∷ 9 ∷ 10 ∷ 11 ∷ 16 ∷ 12 ∷ 13 ∷ 14 ∷ 15 ∷ 16 ∷ 16 ∷ 16 ∷ 16 ∷ 16 ∷ 16 ∷ [])
+    (45 ∷ 0 ∷ 0 ∷ 0 ∷ 0 ∷ 45 ∷ 0 ∷ 0 ∷ 0 ∷ 0 ∷ 45 ∷ 0 ∷ 0 ∷ 0 ∷ 0 ∷ 0 ∷ [])
 
 abbrev pub last_of : List ℕ → List ℕ
-last_of second = hyphened second (16 ∷ 4 ∷ 5 ∷ 6 ∷ 7 ∷ 8 ∷ 9 ∷ 10 ∷ 11 ∷ 12 ∷ 13 ∷ 14 ∷ 15 ∷ 0 ∷ 0 ∷ 0 ∷ [])
+last_of second = spread second (16 ∷ 4 ∷ 5 ∷ 6 ∷ 7 ∷ 8 ∷ 9 ∷ 10 ∷ 11 ∷ 12 ∷ 13 ∷ 14 ∷ 15 ∷ 16 ∷ 16 ∷ 16 ∷ [])
+    (45 ∷ 0 ∷ 0 ∷ 0 ∷ 0 ∷ 0 ∷ 0 ∷ 0 ∷ 0 ∷ 0 ∷ 0 ∷ 0 ∷ 0 ∷ 0 ∷ 0 ∷ 0 ∷ [])
 
 abbrev with_hyphens : List ℕ → List ℕ
 with_hyphens digits = take 8 digits ++ 45 ∷ take 4 (drop 8 digits) ++ 45 ∷ take 4 (drop 12 digits) ++ 45 ∷ take 4 (drop 16 digits) ++ 45 ∷ drop 20
@@ -77,7 +81,7 @@ with_hyphens digits = take 8 digits ++ 45 ∷ take 4 (drop 8 digits) ++ 45 ∷ t
 pieces : (first second : List ℕ) → length first ≡ 16 → length second ≡ 16
     → ((take 8 first ++ take 11 (middle_of first)) ++ take 4 second) ++ take 13 (last_of second) ≡ with_hyphens (first ++ second)
 pieces (a ∷ b ∷ c ∷ d ∷ e ∷ f ∷ g ∷ h ∷ i ∷ j ∷ k ∷ l ∷ m ∷ n ∷ o ∷ p ∷ [])
-    (a' ∷ b' ∷ c' ∷ d' ∷ e' ∷ f' ∷ g' ∷ h' ∷ i' ∷ j' ∷ k' ∷ l' ∷ m' ∷ n' ∷ o' ∷ p' ∷ []) long long' = refl
+    (a' ∷ b' ∷ c' ∷ d' ∷ e' ∷ f' ∷ g' ∷ h' ∷ i' ∷ j' ∷ k' ∷ l' ∷ m' ∷ n' ∷ o' ∷ p' ∷ []) long long' = simp or_zero_r refl
 pieces first second long long' = absurd (omega arith)
 
 -- the text of a GUID, each piece of which was written over what the one before it has too much

@@ -1,6 +1,7 @@
 -- Dates by years that begin on 1 March.
-use Rattle.tds_values.proofs.Words.{◌≡◌, ℕ, ◌+◌, ◌-◌, ◌<◌, ◌≤◌, Bool, true, false, refl, sym, ap, arith, List, [], ◌∷◌, ◌++◌, sum, take, get_or, nat_lt, nat_tests}
-use Rattle.tds_values.proofs.Words.{agree_below_at, cases_lt, ⊎_elim, ◌==◌, if◌then◌else◌, IsDateOf, days_before_year, is_leap_year, last_digits}
+use Rattle.tds_values.proofs.Words.{◌≡◌, ℕ, ◌+◌, ◌-◌, ◌<◌, ◌≤◌, Bool, true, false, refl, sym, ap, arith, List, [], ◌∷◌, ◌++◌, sum, take, get_or}
+use Rattle.tds_values.proofs.Words.{nat_lt, nat_tests, agree_below_at, cases_lt, ⊎_elim, ◌==◌, if◌then◌else◌, IsDateOf, days_before_year}
+use Rattle.tds_values.proofs.Words.{is_leap_year, last_digits}
 use Rattle.tds_values.proofs.CalendarLemmas.{only_date}
 use Rattle.tds_values.specs.Calendar.{since_march}
 use Rattle.tds_values.specs.ScalarText.{date_text, day_text, march_text}

@@ -90,14 +90,12 @@ pub fn write_front<const COPY: bool>(kind: &Kind, bytes: &[u8], to: &mut [u8]) -
         Kind::BitN => as_front(2, write_bit(counted(1, bytes)?, to)),
         Kind::Money4 => as_front(4, write_money(4, &bytes[..4], to)),
         Kind::Money8 => as_front(8, write_money(8, &bytes[..8], to)),
-        Kind::MoneyN(8) => as_front(9, write_money(8, counted(8, bytes)?, to)),
         Kind::MoneyN(n) => as_front(
             1 + n as usize,
             write_money(n, counted(n as usize, bytes)?, to),
         ),
         Kind::DateTime4 => as_front(4, write_date_time_n(4, &bytes[..4], to)),
         Kind::DateTime8 => as_front(8, write_date_time_n(8, &bytes[..8], to)),
-        Kind::DateTimeN(8) => as_front(9, write_date_time_n(8, counted(8, bytes)?, to)),
         Kind::DateTimeN(n) => {
             as_front(
                 1 + n as usize,

@@ -17,7 +17,8 @@ fn digits_of(bytes: u8x16) -> (u8x16, u8x16)
     hex_lanes(bytes.swizzle([3, 2, 1, 0, 5, 4, 7, 6, 8, 9, 10, 11, 12, 13, 14, 15]))
 }
 
-// Lower-case hexadecimal digits, 8-4-4-4-12. Each piece is written over what the one before it has too much.
+// Lower-case hexadecimal digits, 8-4-4-4-12. Each piece is written over what the one before it has too much. Hyphens come
+// where its digits leave room.
 #[inline(always)]
 pub(crate) fn put_guid(to: &mut [u8], bytes: &[u8]) -> usize
     requires room { 39 ≤ length to.old }
@@ -26,15 +27,15 @@ pub(crate) fn put_guid(to: &mut [u8], bytes: &[u8]) -> usize
     ensures written { take 36 to.new ≡ hyphenated_text lower (swap_fields bytes.now) }
 {
     let (first, second) = digits_of(u8x16::from_slice(bytes));
-    let hyphen = u8x16::splat(b'-');
+    let none = u8x16::splat(0);
     let middle = first.shuffle(
-        hyphen,
-        [16, 8, 9, 10, 11, 16, 12, 13, 14, 15, 16, 0, 0, 0, 0, 0],
-    );
+        none,
+        [16, 8, 9, 10, 11, 16, 12, 13, 14, 15, 16, 16, 16, 16, 16, 16],
+    ) | u8x16::from_array(*b"-\0\0\0\0-\0\0\0\0-\0\0\0\0\0");
     let last = second.shuffle(
-        hyphen,
-        [16, 4, 5, 6, 7, 8, 9, 10, 11, 12, 13, 14, 15, 0, 0, 0],
-    );
+        none,
+        [16, 4, 5, 6, 7, 8, 9, 10, 11, 12, 13, 14, 15, 16, 16, 16],
+    ) | u8x16::from_array(*b"-\0\0\0\0\0\0\0\0\0\0\0\0\0\0\0");
     first.copy_to_slice(&mut to[0..]);
     middle.copy_to_slice(&mut to[8..]);
     second.copy_to_slice(&mut to[19..]);
