@@ -302,6 +302,7 @@ impl<'a> RowFormat<'a> {
     }
 
     /// Writes such cells as far as the row's end. Of a ROW it may end before a column that the row format doesn't know.
+    #[inline(always)]
     pub fn run_in_row(&self, at: &mut Cursor<'a>, nulls: Nulls, bytes: &[u8], to: &mut [u8]) -> Span
         requires covers { Covers nulls self.now.count }
         ensures used { result.used ≤ length bytes.now }
