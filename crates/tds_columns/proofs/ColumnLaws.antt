@@ -18,7 +18,7 @@ pub byte_and_rest : (kind : Kind) (info : List ℕ) → N.IsTypeInfo kind info �
 byte_and_rest = grind arith
 
 pub length-SpellsColumn : (c : Column) (bytes : List ℕ) (h : N.SpellsColumn c bytes) → length bytes ≡ (6 + length h.info) + (1 + length c.name)
-length-SpellsColumn c bytes h = rw h.spelt (simp length-append (omega arith))
+length-SpellsColumn = grind (arith, length-append)
 
 -- a column takes at least 8 bytes
 least-SpellsColumns : (cs : List Column) (bytes : List ℕ) → N.SpellsColumns cs bytes → 8 * length cs ≤ length bytes
@@ -32,7 +32,7 @@ after_columns bytes count columns = if length columns == count then N.WholeDescr
 -- a further column comes
 pub at_column : (bytes : List ℕ) (count : ℕ) (columns : List Column) → length columns < count
     → after_columns bytes count columns ≡ InColumn bytes count columns N.ColumnHead
-at_column bytes count columns more = N.choose_false _ _ _ (N.ne_eqb _ count (omega arith))
+at_column = grind (arith, N.choose_false, N.ne_eqb)
 
 -- a Count of columns that fit
 count_free : (room n : ℕ) (bytes : List ℕ) → 0 < n → n < 65535 → 2 + 8 * n ≤ room → (N.count_fault room n ≡ N.None)
@@ -68,9 +68,9 @@ module _ (room : ℕ) where
   column_is_read b count cols c bytes fits h =
       let type = byte_and_rest c.kind h.info h.kind in
       let head = h.ignored ++ type.byte ∷ [] in
-      let li : length h.info ≡ 1 + length type.rest = omega (arith, N.ap length type.spelt) in
+      let li : length h.info ≡ 1 + length type.rest = grind arith in
       let l = length-SpellsColumn c bytes h in
-      let l2 : length ((b ++ head) ++ type.rest) ≡ length b + (7 + length type.rest) = simp length-append (omega (arith, h.six)) in
+      let l2 : length ((b ++ head) ++ type.rest) ≡ length b + (7 + length type.rest) = grind (arith, length-append) in
       let all = simp N.append_assoc at (N.Spelt-append (description room) _ _ _ _ _ (head_is_read b count cols h.ignored type.byte _ h.six type.whole (omega
       (arith, l, li, fits)))
       (N.Spelt-append (description room) _ _ _ _ _ (info_is_read (b ++ head) count cols type.byte type.rest c.kind type.whole type.allowed) (N.Spelt-append
@@ -80,10 +80,10 @@ module _ (room : ℕ) where
 
   all_are_read : (b : List ℕ) (count : ℕ) (cols cs : List Column) (bytes : List ℕ) → count ≡ length cols + length cs → length b + length bytes ≤ room
       → N.SpellsColumns cs bytes → Spelt (description room) (after_columns b count cols) bytes (N.WholeDescription (b ++ bytes) (cols ++ cs))
-  all_are_read b count cols [] bytes n fits h = rw (h, N.append-nil, N.append-nil, n, N.add-zero) (grind (arith, N.Spelt-none, N.choose_true, N.nat_tests))
+  all_are_read b count cols [] bytes n fits h = grind (arith, N.append-nil, N.add-zero, N.Spelt-none, N.choose_true, N.nat_tests)
   all_are_read b count cols (c ∷ cs) bytes n fits h =
       let la : length bytes ≡ length h.0 + length h.1 = rw (h.2, length-append) in
-      let more = rw length-append at (all_are_read (b ++ h.0) count (cols ++ c ∷ []) cs h.1 (simp length-append (omega (arith, n)))
+      let more = rw length-append at (all_are_read (b ++ h.0) count (cols ++ c ∷ []) cs h.1 (grind (arith, length-append))
       (simp length-append (omega (arith, la, fits))) h.4) in
       rw (at_column b count cols (omega (arith, n)), h.2) (simp N.append_assoc at (N.Spelt-append (description room) _ _ _ _ _
       (column_is_read b count cols c h.0 (omega (arith, la, least-SpellsColumns cs h.1 h.4, n, fits)) h.3) more))
@@ -101,7 +101,7 @@ module _ (room : ℕ) where
       let n = length cs in
       let count = n % 256 ∷ n / 256 ∷ [] in
       let two : N.little count ≡ n = omega arith in
-      let la : length bytes ≡ 2 + length h.rest = rw h.spelt (omega arith) in
-      let free = count_free room n count h.some h.most (omega (arith, la, h.within, least-SpellsColumns cs h.rest h.each)) in
+      let la : length bytes ≡ 2 + length h.rest = grind arith in
+      let free = count_free room n count h.some h.most (grind (arith, least-SpellsColumns)) in
       rw h.spelt (N.Spelt-append (description room) _ _ _ _ _ (N.Spelt-step (description room) N.BeforeCount count (after_columns count n [])
       (omega arith) N.refl (rw two free.0) (rw two free.1)) (all_are_read count n [] cs h.rest (omega arith) (omega (arith, la, h.within)) h.each))

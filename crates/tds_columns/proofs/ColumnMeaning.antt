@@ -12,7 +12,7 @@ not_zero = grind arith
 
 -- and unless it is that of no metadata the room has the least bytes of its columns
 pub room_for : (room c : ℕ) → c ≢ 0xFFFF → N.count_fault room c ≡ None → 2 + 8 * c ≤ room
-room_for = grind (arith, not_long)
+room_for = grind arith
 
 -- a type byte that is accepted
 pub known_type : (i byte : ℕ) (o : N.Option ℕ) (y : N.Option N.Fault) → N.first_of_two (N.type_fault i byte o) y ≡ None → (n : ℕ) × (o ≡ Some n)
@@ -50,12 +50,12 @@ DescribedMeans room (N.WholeDescription bytes cols) b = (bytes ≡ b) × N.Spell
 
 pub one_more_column : (cols : List Column) (b : List ℕ) (c : Column) (e : List ℕ) → N.SpellsColumns cols b → N.SpellsColumn c e
     → N.SpellsColumns (cols ++ c ∷ []) (b ++ e)
-one_more_column [] b c e h s = (e, [], ap (λ v. v ++ e) h ∙ N.sym (N.append-nil e), s, N.refl)
+one_more_column [] b c e h s = grind (arith, N.append-nil)
 one_more_column (d ∷ cols) b c e h s = (h.0, h.1 ++ e, ap (λ v. v ++ e) h.2 ∙ N.append_assoc h.0 h.1 e, h.3, one_more_column cols h.1 c e h.4 s)
 
 -- the bytes go on
 longer : (b e one front part : List ℕ) → b ≡ one ++ (front ++ part) → b ++ e ≡ one ++ (front ++ (part ++ e))
-longer b e one front part h = rw h (simp N.append_assoc)
+longer = grind (arith, N.append_assoc)
 
 module _ (room : ℕ) where
   module _ {have : List ℕ} {count : ℕ} {cols : List Column} {place : N.ColumnPlace} {b : List ℕ} (h : WithinMeans room have count cols place b)

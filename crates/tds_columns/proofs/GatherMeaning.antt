@@ -40,5 +40,5 @@ unfinished = grind arith
 pub gather_stops : {room : ℕ} {a b : N.PayloadView} {place peak : ℕ} {area : N.Space} {stop : N.Stop}
     → N.StopsDescribing room N.BeforeCount a b place peak area stop → N.GatherStops room a b place peak area stop
 gather_stops {room} x =
-    let some : 0 < N.described_size x.at = elim x.stops.cause [ N.inl r ↦ omega (arith, r.0.some, r.0.whole) | N.inr r ↦ omega (arith, r.cut) ] in
+    let some : 0 < N.described_size x.at = grind arith in
     record { describing = x; begins = x.kept ∙ unfinished x.at x.stops.bytes (kept_bytes room x.at x.stops.bytes x.stops.spelt) some }

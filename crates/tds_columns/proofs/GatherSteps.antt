@@ -20,7 +20,7 @@ module _ {room : ℕ} {s : DescriptionPart} {a b : PayloadView} {before after : 
       → before.bytes ≡ N.description_bytes s → N.StopsDescribing room s a b place before.peak after stop
   description_cut {n} e size kept =
       let o = open_state s n size (omega arith) in
-      record { at = s; stops = cut_into e size o.0; kept = e.stands ∙ kept; bound = omega (arith, ap length kept); further = N.le_refl (span s) }
+      grind (arith, cut_into, N.le_refl)
 
   -- the next element is read whole, without a fault
   pub description_read : {kept : Space} {place place' n : ℕ} {to : DescriptionPart} (t : N.TakesInto a b before after n) → 0 < n → N.described_size s ≡ n
@@ -28,7 +28,7 @@ module _ {room : ℕ} {s : DescriptionPart} {a b : PayloadView} {before after : 
       → before.bytes ≡ N.description_bytes s → kept.peak ≡ after.peak → kept.bytes ≡ N.description_bytes to
       → Describes room s a b place place' before.peak kept to
   description_read {n} t some size free leads at had peak bytes =
-      let within = rw (leads, t.whole) at (spans room s t.element (record { some = omega (arith, t.whole, some); whole = t.whole ∙ N.sym size; free = free }))
+      let within = rw (leads, t.whole) at (spans room s t.element (grind arith))
       in
       record {
         reads = reads_into t some size free leads;
@@ -45,21 +45,15 @@ module _ {room : ℕ} {s : DescriptionPart} {a b : PayloadView} {before after : 
       → N.StopsDescribing room s a b place before.peak cut (record { fault = fault; place = N.Payload place })
   description_refused {n} t some size first kept at is =
       let cut = shrunk before t.element t.stands t.whole at is in
-      record {
-        at = s;
-        stops = refused_into t some size first;
-        kept = cut.0 ∙ kept;
-        bound = omega (arith, (open_state s n size some).1, ap length kept);
-        further = N.le_refl (span s);
-      }
+      record { at = s; stops = refused_into t some size first; kept = cut.0 ∙ kept; bound = grind (arith, open_state); further = N.le_refl (span s) }
 
 module _ {room : ℕ} {s t : DescriptionPart} {a b c : PayloadView} {p q k : ℕ} {middle after : Space} where
   pub describes_both : {u : DescriptionPart} {r room' : ℕ} → room' ≡ room → Describes room s a b p q k middle t
       → Describes room' t b c q r middle.peak after u → Describes room s a c p r k after u
   describes_both {u} same x z = let y = rw same at z in
       record {
-        reads = N.reads_both (N.description room) s t u a b c x.reads y.reads;
-        place_is = omega (arith, y.place_is, N.length-append x.reads.bytes y.reads.bytes);
+        reads = grind (arith, N.reads_both);
+        place_is = grind (arith, N.length-append);
         kept = y.kept;
         bound = omega (arith, x.bound);
         further = omega (arith, x.further);
@@ -68,13 +62,7 @@ module _ {room : ℕ} {s t : DescriptionPart} {a b c : PayloadView} {p q k : ℕ
   pub stops_describing_after : {room' : ℕ} {stop : Stop} → room' ≡ room → Describes room s a b p q k middle t
       → N.StopsDescribing room' t b c q middle.peak after stop → N.StopsDescribing room s a c p k after stop
   stops_describing_after {stop} same x z = let y = rw same at z in
-      record {
-        at = y.at;
-        stops = N.stops_after (N.description room) s t a b c p y.at stop x.reads (rw (← x.place_is) y.stops);
-        kept = y.kept;
-        bound = omega arith;
-        further = omega arith;
-      }
+      record { at = y.at; stops = grind (arith, N.stops_after); kept = y.kept; bound = omega arith; further = omega arith }
 
 -- what a call reads from there on is read after the first part
 pub part_after : {U X : Type 0} (r : N.Result U Stop) (to : X → DescriptionPart) (c : PayloadView) (z : ℕ) (after : Space) {room : ℕ} {s t : DescriptionPart}
@@ -107,15 +95,14 @@ name_after (N.Err stop) c after place'' stopped first some going at e = stops_de
 -- the element is all that the area has
 count_is : {a b : PayloadView} {before after : Space} (t : N.TakesInto a b before after 2) → before.bytes ≡ [] → (after.bytes ≡ t.element)
     × (N.little t.element ≡ N.little_number 2 after.bytes)
-count_is {after} t none = let same : after.bytes ≡ t.element = rw (t.stands, none) in (same, rw (same, t.whole))
+count_is = grind arith
 
 module _ {room count : ℕ} {a b : PayloadView} {before after kept : Space} {place : ℕ} (t : N.TakesInto a b before after 2) (none : before.bytes ≡ [])
     (number : count ≡ N.little_number 2 after.bytes) where
   pub count_read : {place' : ℕ} {to : DescriptionPart} → N.count_fault room count ≡ None → N.with_count after.bytes count ≡ to → place' ≡ place + 2
       → kept.peak ≡ after.peak → kept.bytes ≡ N.description_bytes to → Describes room N.BeforeCount a b place place' before.peak kept to
-  count_read free leads at peak bytes = description_read t (omega arith) refl (rw ((count_is t none).1, ← number) free)
-      (rw ((count_is t none).1, ← number, ← (count_is t none).0) leads) at none peak bytes
+  count_read free leads at peak bytes = description_read t (omega arith) refl (grind (arith, count_is)) (grind (arith, count_is)) at none peak bytes
 
   pub count_refused : {fault : N.Fault} → N.count_fault room count ≡ Some fault → kept ≡ N.holding after []
       → N.StopsDescribing room N.BeforeCount a b place before.peak kept (record { fault = fault; place = N.Payload place })
-  count_refused why = description_refused {start = 0} t (omega arith) refl (rw ((count_is t none).1, ← number) why) none (rw none)
+  count_refused why = description_refused {start = 0} t (omega arith) refl (grind (arith, count_is)) none (rw none)

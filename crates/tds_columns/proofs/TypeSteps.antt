@@ -20,18 +20,14 @@ module _ {o a : N.PayloadView} (head : N.List ℕ) (taken : N.WereTaken o a head
       let at : (place - 8) + length head ≡ place = omega arith in
       record {
         at = N.TypeRest (slice_index head 7);
-        stops =
-            N.stops_after returned_type TypeHead _ o a b (place - 8) _ _ head_read (rw (
-              at,
-              N.choose_false _ (N.with_known (N.kind_of (slice_index head 7 ∷ []))) (N.TypeRest (slice_index head 7)) (N.ne_eqb rest 0 some),
-            ) q);
+        stops = N.stops_after returned_type TypeHead _ o a b (place - 8) _ _ head_read (grind (arith, N.choose_false, N.ne_eqb));
       }
 
   -- what follows describes the kind
   pub type_whole : {b : N.PayloadView} {before after : N.Space} {kind : N.Kind} (t : N.TakesInto a b before after rest)
       → N.kind_of (slice_index head 7 ∷ t.element) ≡ Some kind → Reads returned_type TypeHead o b (N.KnownType kind)
   type_whole {b} {kind} t found = N.choose (λ s. Reads returned_type TypeHead o a s → Reads returned_type TypeHead o b (N.KnownType kind)) (rest == 0) _ _
-      (λ z p. let empty = N.nil_from_length t.element (omega (arith, N.eq_true rest 0 z)) in
+      (λ z p. let empty = N.nil_from_length t.element (grind (arith, N.eq_true)) in
       let takes : N.Takes a b t.element (length t.element) = rw t.whole t.takes in
       N.reads_both returned_type _ _ _ _ _ _ (rw (rw empty at found) at p)
       (record { bytes = []; spelt = N.Spelt-none returned_type (N.KnownType kind); takes = rw empty at takes }))

@@ -5,11 +5,11 @@ use N.{◌≡◌, ℕ, ◌+◌, ◌*◌, ◌-◌, ◌≤◌, true, List, [], ◌
 -- ---- a column at the front
 
 item : (front rest : List ℕ) (x n : ℕ) → n ≡ length front → N.slice_index (front ++ x ∷ rest) n ≡ x
-item front rest x n e = rw e (N.get_or-append_seam front x rest 0)
+item = grind (arith, N.get_or-append_seam)
 
 -- what n items are followed by, and these
 parted : (front rest : List ℕ) (n : ℕ) → n ≡ length front → (drop n (front ++ rest) ≡ rest) × (take n (front ++ rest) ≡ front)
-parted front rest n e = rw e (N.drop-append_seam front rest, N.take-append_seam front rest)
+parted = grind (arith, N.drop-append_seam, N.take-append_seam)
 
 -- a column of this size lies at the front
 abbrev Front : Column → ℕ → List ℕ → Type 0
@@ -21,7 +21,7 @@ laid : (c : Column) (front ignored info rest more : List ℕ) (byte units : ℕ)
 laid c front ignored info rest more byte units spelt split six known kind counted =
     let tail = c.name ++ more in
     let bytes = ignored ++ byte ∷ (rest ++ units ∷ tail) in
-    let head : length (ignored ++ byte ∷ rest) ≡ 7 + length rest = omega (arith, N.length-append ignored (byte ∷ rest), six) in
+    let head : length (ignored ++ byte ∷ rest) ≡ 7 + length rest = grind (arith, N.length-append) in
     let at6 = item ignored (rest ++ units ∷ tail) byte 6 (sym six) in
     let info_is : take (1 + length rest) (drop 6 bytes) ≡ byte ∷ rest =
     rw (parted ignored (byte ∷ (rest ++ units ∷ tail)) 6 (sym six)).0 (parted (byte ∷ rest) (units ∷ tail) (1 + length rest) (omega arith)).1 in
@@ -39,9 +39,7 @@ laid c front ignored info rest more byte units spelt split six known kind counte
     )
 
 front_of : (c : Column) (front more : List ℕ) → N.SpellsColumn c front → Front c (length front) (front ++ more)
-front_of c front more h =
-    let type = N.ColumnLaws.byte_and_rest c.kind h.info h.kind in
-    laid c front h.ignored h.info type.rest more type.byte h.units h.spelt type.spelt h.six type.whole type.allowed h.counted
+front_of = grind (arith, laid)
 
 -- columns that are spelt lie there
 columns_lie : (cs : List Column) (bytes : List ℕ) → N.SpellsColumns cs bytes → (N.columns_in (length cs) bytes ≡ cs) × (N.are_columns (length cs) bytes ≡ true)
@@ -61,7 +59,7 @@ length_columns (N.suc n) bytes = omega (arith, length_columns n (drop (N.column_
 
 -- the kind that a TYPE_INFO names
 named_of : (k : N.Kind) (b : ℕ) (rest : List ℕ) → N.kind_of (b ∷ rest) ≡ Some k → N.named_kind b rest ≡ Some k
-named_of = grind (arith, N.rest_length_of, N.nat_tests)
+named_of = grind arith
 
 -- a whole column at the front
 pub record Lies (bytes : List ℕ) : Type 0 where
@@ -73,11 +71,11 @@ pub record Lies (bytes : List ℕ) : Type 0 where
   pub valid : N.is_valid kind ≡ true
 
 pub from_type : (bytes : List ℕ) (n : ℕ) → 7 ≤ length bytes → take (1 + n) (drop 6 bytes) ≡ N.slice_index bytes 6 ∷ take n (drop 7 bytes)
-from_type = grind (arith, N.common_steps, N.drop-cons)
+from_type = grind arith
 
 pub lies : (bytes : List ℕ) → N.is_column bytes ≡ true → Lies bytes
 lies = grind (arith, N.and_parts, from_type, N.is_some_value, N.le_true, N.length-drop, N.length-take-le, named_of, N.rest_length_of, N.valid_of)
 
 -- all bytes from a place on
 pub all_after : (bytes : List ℕ) (n : ℕ) → take (length bytes - n) (drop n bytes) ≡ drop n bytes
-all_after bytes n = N.take_all (length bytes - n) (drop n bytes) (omega (arith, N.length-drop n bytes))
+all_after = grind (arith, N.take_all, N.length-drop)

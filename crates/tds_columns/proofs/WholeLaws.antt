@@ -14,12 +14,7 @@ one_further = grind (arith, N.common_steps, take-add, N.drop-cons)
 -- the parts of a column
 column_parts : (bytes : List ℕ) (rest units : ℕ) → 8 + rest ≤ length bytes → N.slice_index bytes (7 + rest) ≡ units → take ((8 + rest) + 2 * units) bytes
     ≡ (take 6 bytes ++ N.slice_index bytes 6 ∷ take rest (drop 7 bytes)) ++ units ∷ take (2 * units) (drop (8 + rest) bytes)
-column_parts bytes rest units fits is =
-    let last : take (8 + rest) bytes ≡ take (7 + rest) bytes ++ units ∷ [] =
-    let e : 8 + rest ≡ (7 + rest) + 1 = omega arith in rw (e, ← is) (one_further (7 + rest) bytes (omega arith)) in
-    let type : take (7 + rest) bytes ≡ take 6 bytes ++ N.slice_index bytes 6 ∷ take rest (drop 7 bytes) =
-    let e : 7 + rest ≡ 6 + (1 + rest) = omega arith in rw (e, ← from_type bytes rest (omega arith)) (take-add 6 (1 + rest) bytes) in
-    rw (take-add (8 + rest) (2 * units) bytes, last, type) (simp N.append_assoc)
+column_parts = grind (arith, one_further, from_type, take-add, N.append_assoc)
 
 -- a column whose type information and name are there
 pub column_begins : (bytes : List ℕ) (rest units : ℕ) {kind : N.Kind} → (8 + rest) + 2 * units ≤ length bytes
@@ -31,9 +26,9 @@ column_begins bytes rest units {kind} fits known is byte = (
     ignored = take 6 bytes;
     info = N.slice_index bytes 6 ∷ take rest (drop 7 bytes);
     units = units;
-    spelt = column_parts bytes rest units (omega arith) is;
-    six = N.length-take-le 6 bytes (omega arith);
-    kind = let e : 7 + rest - 7 ≡ rest = omega arith in rw e at known;
+    spelt = grind (arith, column_parts);
+    six = grind arith;
+    kind = grind arith;
     counted = N.length-take-le (2 * units) (drop (8 + rest) bytes) (omega (arith, N.length-drop (8 + rest) bytes));
     byte = byte;
   },
@@ -42,7 +37,7 @@ column_begins bytes rest units {kind} fits known is byte = (
 
 -- no column
 pub no_columns : (bytes : List ℕ) → BeginsColumns bytes 0 0
-no_columns bytes = ([], refl, refl, omega arith)
+no_columns = grind arith
 
 -- a further column
 pub columns_begin : (bytes : List ℕ) (count size more : ℕ) → BeginsColumns bytes count size
@@ -50,7 +45,7 @@ pub columns_begin : (bytes : List ℕ) (count size more : ℕ) → BeginsColumns
 columns_begin bytes count size more h all = let one = rw (all_after bytes size) at all in (
   h.0 ++ one.0 ∷ [],
   omega (arith, N.length-append h.0 (one.0 ∷ []), h.1),
-  rw (take-add size more bytes) (one_more_column h.0 (take size bytes) one.0 (take more (drop size bytes)) h.2 one.1),
+  rw (take-add size more bytes) (grind (arith, one_more_column)),
   omega (arith, N.length-drop size bytes, h.3, one.2),
 )
 
@@ -61,7 +56,7 @@ pub takes_whole : (room : ℕ) (bytes : List ℕ) (count size : ℕ) {a b : N.Pa
     × N.Describes room N.BeforeCount a b place place' before.peak after (N.WholeDescription after.bytes columns)
     × N.Takes a b after.bytes (length after.bytes) × N.SpellsDescription room columns after.bytes
 takes_whole room bytes count size {a} {b} before after {place} {place'} h took none stands at =
-    let same : after.bytes ≡ take size bytes = rw (stands, none) refl in
+    let same : after.bytes ≡ take size bytes = grind arith in
     let whole : length (take size bytes) ≡ size = N.length-take-le size bytes h.3 in
     let all : N.Takes a b (take size bytes) (length (take size bytes)) = Takes-more a b (take size bytes) 0 _ (omega arith) took in (
       h.0,
