@@ -122,7 +122,7 @@ module _ {S : Type 0} (g : Grammar S Fault) (text : S → List ℕ) where
 
   -- the text of what is read later stands after that of what is read before
   pub grown_leads : Grows g text → (s : S) (es : List (List ℕ)) (t : S) → Leads g s es t → (more : List ℕ) × (text s ++ more ≡ text t)
-  grown_leads grows s [] t leads = ([], N.append-nil (text s) ∙ ap text leads)
+  grown_leads grows s [] t leads = grind (arith, N.append-nil)
   grown_leads grows s (e ∷ es) t leads = grind (arith, append_assoc, grown_leads grows (g.add s e) es t leads.1)
 
 module _ {S : Type 0} (g : Grammar S Fault) where

@@ -10,19 +10,19 @@ use lib.Lanes.{digits_l, number_l}
 -- of the bytes of a number that k bytes spell the first k
 spelt : (k m : ℕ) (xs : List ℕ) → ((i : ℕ) → slice_index xs i < 256) → k ≤ length xs → k ≤ m → take k (digits_l 256 m (little_from 0 k xs)) ≡ take k xs
 spelt zero m xs bytes there few = refl
-spelt (suc k) m [] bytes there few = absurd (omega arith)
-spelt (suc k) zero (x ∷ xs) bytes there few = absurd (omega arith)
+spelt (suc k) m [] bytes there few = grind arith
+spelt (suc k) zero (x ∷ xs) bytes there few = grind arith
 spelt (suc k) (suc m) (x ∷ xs) bytes there few =
     let rest = little_from 0 k xs in
     let first = bytes 0 in
-    let low : (x + 256 * rest) % 256 ≡ x = omega (arith, first) in
+    let low : (x + 256 * rest) % 256 ≡ x = grind arith in
     let high : (x + 256 * rest) / 256 ≡ rest = omega (arith, first) in
     rw (little_from-cons 0 k x xs, low, high, spelt k m xs (λ i. bytes (suc i)) (omega arith) (omega arith)) refl
 
 -- a number that begins later is one of the bytes from there
 later : (j k : ℕ) (xs : List ℕ) → j ≤ length xs → little_from j k xs ≡ little_from 0 k (drop j xs)
 later zero k xs there = refl
-later (suc j) k [] there = absurd (omega arith)
+later (suc j) k [] there = grind arith
 later (suc j) k (x ∷ xs) there = little_from-cons j k x xs ∙ later j k xs (omega arith)
 
 -- at most sixteen bytes in two words whose number is theirs
@@ -42,7 +42,4 @@ one_word xs {low} bytes few is = words_hold xs low 0 bytes (omega arith) (omega 
 pub two_words : (xs : List ℕ) {low high : ℕ} → ((i : ℕ) → slice_index xs i < 256) → 8 ≤ length xs → length xs ≤ 16 → low ≡ little_number 8 xs
     → high ≡ little_number (length (drop 8 xs)) (drop 8 xs) → LiesIn xs (digits_l 256 16 (number_l (2 ^ 64) (low ∷ high ∷ [])))
 two_words xs {low} {high} bytes more few is is_too =
-    let k = length (drop 8 xs) in
-    let long : length xs ≡ suc (suc (suc (suc (suc (suc (suc (suc k))))))) = omega (arith, N.length-drop 8 xs) in
-    let all : low + 2 ^ 64 * high ≡ little_number (length xs) xs = rw (long, is, is_too, ← later 8 k xs more) (omega arith) in
-    words_hold xs low high bytes few all
+    grind (arith, N.length-drop, later, words_hold)

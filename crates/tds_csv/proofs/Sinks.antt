@@ -13,7 +13,7 @@ pub Adds-trans : (a b c : SinkView) (d f p q : List ℕ) → Adds a b d p → Ad
 Adds-trans = grind (arith, N.append_assoc, N.length-append, N.Appends-trans)
 
 pub Puts-none : (a : SinkView) → a.delivered ≤ 2 ^ 64 - 1 → Puts a a []
-Puts-none a h = ([], 0, (N.Appends-nil a.had, N.append-nil a.waiting, counted-none a.delivered h), N.refl, Stays-none a.failures)
+Puts-none a h = ([], 0, grind (arith, N.Appends-nil, N.append-nil, counted-none), N.refl, Stays-none a.failures)
 
 pub Puts-trans : (a b c : SinkView) (p q : List ℕ) → Puts a b p → Puts b c q → Puts a c (p ++ q)
 Puts-trans a b c p q x y = (x.0 ++ y.0, x.1 + y.1, Adds-trans a b c _ _ _ _ x.2 y.2, omega (arith, N.length-append x.0 y.0), Stays-trans _ _ _ x.0 y.0 x.4 y.4)

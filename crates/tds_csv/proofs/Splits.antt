@@ -4,7 +4,7 @@ use N.{◌≡◌, ◌∙◌, ◌⊎◌, ℕ, ◌+◌, ◌-◌, ◌*◌, ◌^◌,
 
 -- what waits and a piece is what is delivered and then waits
 total_of : (a b : SinkView) (p r sent : List ℕ) → Adds a b sent (p ++ r) → length (a.waiting ++ p) + length r ≡ length sent + length b.waiting
-total_of a b p r sent adds = sym (N.length-append (a.waiting ++ p) r) ∙ ap length (N.append_assoc a.waiting p r ∙ adds.1) ∙ N.length-append sent b.waiting
+total_of a b p r sent adds = sym (N.length-append (a.waiting ++ p) r) ∙ ap length (grind (arith, N.append_assoc)) ∙ N.length-append sent b.waiting
 
 -- the whole blocks of what waits and comes first are delivered before the rest is put
 split_at : (a b : SinkView) (p r sent : List ℕ) (n : ℕ) → Adds a b sent (p ++ r) → 4096 * n ≤ length sent → 4096 * n ≤ length (a.waiting ++ p)
@@ -46,7 +46,7 @@ Puts_split a b p q few x =
 pub WritesPrefix_split : (a b : SinkView) (p q : List ℕ) (stop : N.Stop) → N.WritesPrefix a b (p ++ q) stop → N.WritesPrefix a b p stop
     ⊎ ((m : SinkView) × (length m.waiting < 4096) × Puts a m p × N.WritesPrefix m b q stop × (m.delivered ≤ 2 ^ 64 - 1))
 WritesPrefix_split a b p q stop x = elim (N.dec_le x.2 (length p)) [
-  | yes le ↦ N.inl (x.0, x.1, x.2, N.subst (Adds a b x.0) (N.take-append-le x.2 p q le) x.3, le, x.5, x.6, x.7, x.8, x.9)
+  | yes le ↦ grind (arith, N.take-append-le)
   | no above ↦
       let i = x.2 - length p in
       let n = length (a.waiting ++ p) / 4096 in

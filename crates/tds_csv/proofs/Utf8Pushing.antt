@@ -120,6 +120,6 @@ pub pushes_long : {W U V : Type 0} {contents : W → N.Option (List ℕ)} {a b d
     → PushesPiece contents Begins rest text kept new a d piece (moved_by (3 - length held') r)
 pushes_long {kept} {mid} {piece} {held'} long same le x y =
     let at = 3 - length held' in
-    let whole : at + length mid ≡ length (take 3 piece) = omega (arith, ap length same, N.length-take-le 3 piece long) in
+    let whole : at + length mid ≡ length (take 3 piece) = grind (arith, N.length-take-le) in
     rw N.take-append-drop at (pushes_both (drop 3 piece) at whole x (rw (rw N.take-append-drop at
     (kept_tail kept (take 3 piece) (drop 3 piece) mid at x.gives.withheld whole)) at y))

@@ -12,7 +12,7 @@ Stays-trans = grind (arith, N.common_steps, N.length-append)
 
 -- bytes moved before a call that failed, and in it
 pub Rises-after : {f g : ℕ} (r s : List ℕ) → Stays f g r → (0 < length s → g < 2 ^ 64 - 1) → 0 < length (r ++ s) → f < 2 ^ 64 - 1
-Rises-after r s p q = grind (arith, N.length-append r s, p.0, p.1, q)
+Rises-after r s p q = grind (arith, N.length-append)
 
 -- bytes that a device took before a call that failed, and in it
 pub Stays-Rises : {f g h : ℕ} (r s : List ℕ) → Stays f g r → N.Rises g h s → N.Rises f h (r ++ s)
@@ -21,7 +21,7 @@ Stays-Rises r s p q = (q.0 ∙ N.ap N.one_more p.0, Rises-after r s p q.1)
 -- an input of fewer than eight bytes
 short_input : (size limit wire : ℕ) (xs : List ℕ) → length xs < 8 → front_packet size limit wire xs ≡ N.NoPacket N.InputEnded []
 unfolding front_packet
-short_input size limit wire xs h = rw (test_lt (length xs) 8 h)
+short_input size limit wire xs h = grind arith
 
 -- the header is the first eight bytes
 after_header : (size limit wire : ℕ) (hdr ys : List ℕ) {o : N.Option Fault} → length hdr ≡ 8 → N.header_fault size limit wire hdr ≡ o
@@ -44,7 +44,7 @@ module _ (size limit wire : ℕ) (hdr : List ℕ) (h : Header) (eight : length h
 
   -- an input that ends in the body
   ended_body : (bs : List ℕ) → length bs + 8 < h.length → front_packet size limit wire (hdr ++ bs) ≡ N.NoPacket N.InputEnded []
-  ended_body = grind (arith, after_header, N.Choices.choose_true, test_lt)
+  ended_body = grind (arith, after_header, test_lt)
 
   -- no beginning of a packet is a packet
   cut : (body : List ℕ) (j : ℕ) → length body + 8 ≡ h.length → j < length (hdr ++ body)

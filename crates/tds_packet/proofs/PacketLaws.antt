@@ -27,7 +27,7 @@ pub record Good (size limit : ℕ) (packets : List Packet) (header : List ℕ) :
 
 free_is_good : (size limit : ℕ) (packets : List Packet) (header : List ℕ) → length header ≡ 8 → AreBytes header
     → N.header_fault size limit (length (wire_of packets)) header ≡ None → Good size limit packets header
-free_is_good = grind (arith, eq_true, N.nat_tests)
+free_is_good = grind arith
 
 -- what the bytes that lead to a place of the wire are
 abbrev pub WireMeans : ℕ → ℕ → List Packet → WirePlace → List ℕ → Type 0
@@ -63,7 +63,7 @@ header_of p = 4 ∷ p.status ∷ N.packet_length p / 256 ∷ N.packet_length p %
 
 module _ (size limit : ℕ) where
   pub good_header : (before : ℕ) {p : Packet} → IsPacket size p → before + N.packet_length p ≤ limit → N.header_fault size limit before (header_of p) ≡ None
-  good_header = grind (arith, N.nat_tests)
+  good_header = grind arith
 
   abbrev pub before_packet : List Packet → WirePart
   before_packet packets = record { packets = packets; place = N.BeforeHeader }
@@ -174,17 +174,7 @@ module _ (size limit n : ℕ) (packets : List Packet) (each : AreBefore size pac
       → Gives size limit packets n (wire_of packets ++ (wired ++ more)) (N.WholePacket p.body last count more)
   whole_gives p wired more last count comes are fits long limited less is =
       let joined : wire_of (packets ++ p ∷ []) ≡ wire_of packets ++ wired = simp (N.flat_map-append, append-nil, fits.0) in
-      let bodies : payload_of (packets ++ p ∷ []) ≡ payload_of packets ++ p.body = simp (N.flat_map-append, append-nil) in
-      elim last as (λ t. is_last p ≡ t → Gives _ _ _ n _ (N.WholePacket p.body t count more)) [
-        | true ↦ λ e. grind (arith, last_one, append-nil, append_assoc, length-append)
-        | false ↦ λ e. simp (
-          joined,
-          bodies,
-          length-append,
-          append_assoc,
-          long,
-        ) at (comes (packets ++ p ∷ []) more (rw (joined, append_assoc) are) (one_more _ _ p each fits.1 e) (grind (arith, length-append)) less)
-      ] is
+      grind (arith, N.flat_map-append, append-nil, last_one, append_assoc, length-append, at, one_more)
 
   -- a header is whole
   header_gives : (header rest : List ℕ) (o : N.Option N.Fault) → Comes size limit n → AreBytes (wire_of packets ++ (header ++ rest)) → length header ≡ 8

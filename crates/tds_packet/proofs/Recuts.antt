@@ -143,8 +143,6 @@ module _ {R W : Type 0} {remaining : R → Option (List ℕ)} {contents : W → 
       let takes = next_takes made in
       let whole = next_full made test in
       let wrote = N.Appends-trans (contents old.device) (contents mid.device) (contents new.device) _ _ x.wrote writes.0 in
-      let stays = N.Joins.Stays-trans old.failures mid.failures new.failures _ (N.packet_bytes (cut_packet done.packets false (drop 8 packet))) x.stays writes.2
-      in
       grind (arith, length-append)
 
   -- a packet, or the flush after the last one, failed

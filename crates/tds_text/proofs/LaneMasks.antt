@@ -112,7 +112,6 @@ all_pass q zero [] few is = (tt, refl)
 all_pass q zero (u ∷ us) few is = grind arith
 all_pass q (suc n) [] few is = grind arith
 all_pass q (suc n) (u ∷ us) few is =
-    let here : q u ≡ true = grind arith in
     let more = all_pass q n us (omega arith) (grind arith) in
     grind arith
 
@@ -187,7 +186,7 @@ pub pair_stops : (a b : ℕ) → a < 256 → b < 256 → not (top 7 (N.bit_or
 pair_stops a b small little =
     let lead : ltb ((a + 62) % 256) 30 ≡ is_lead a = grind arith in
     let trail : ltb ((b + 128) % 256) 64 ≡ is_trail b = grind arith in
-    grind (arith, lane_stops, N.eqb, N.leb)
+    grind (arith, lane_stops)
 
 -- two bytes
 ArePair : ℕ × ℕ → Type 0
@@ -254,6 +253,5 @@ pub all_plain : (us : List ℕ) {z : List ℕ} → length us ≡ 8 → Each1 (Fi
     → N.fold_l N.bit_or 0 (N.zip2 N.bit_and us (N.replicate 8 65408)) ≡ 0 → z ≡ map (λ u. N.cond (N.eqb u 34) 65535 0) us
     → N.nat_eq (mask_l (map (top 15) z) % 2 ^ 64) 0 ≡ true → Each1 (λ u. N.is_wide u ≡ false) us
 all_plain us {z} long fits none lanes tested =
-    let quotes : mask_l (map (top 15) z) % 2 ^ 64 ≡ 0 = grind arith in
     let masked = mask_of (λ u. N.eqb u 34) (λ u. N.cond (N.eqb u 34) 65535 0) us long fits lanes (grind arith) in
     plain_units us fits (none_joined 0 _ (rw (N.zip2_splat N.bit_and us 8 65408 long) at none)).1 (none_passes _ us (grind arith))

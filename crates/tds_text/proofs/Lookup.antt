@@ -61,7 +61,7 @@ lowest_bit = grind arith
 -- a row for two masks of some lanes begins with the places of these lanes
 pub row_begins : (f : Bool → Bool → List ℕ) (width at m : ℕ) (ws ls : List Bool) → length ws ≤ m → length ls ≡ length ws
     → (rest : List ℕ) × (placed width at (zip2 f (bits m (N.mask_l ws)) (bits m (N.mask_l ls))) ≡ placed width at (zip2 f ws ls) ++ rest)
-row_begins f width at m [] [] few same = grind (arith, placed, bits)
+row_begins f width at m [] [] few same = grind arith
 row_begins f width at (suc m) (w ∷ ws) (l ∷ ls) few same =
     let more = row_begins f width (at + width) m ws ls (omega arith) (omega arith) in grind (arith, lowest_bit, N.append_assoc)
 row_begins f width at zero (w ∷ ws) ls few same = grind arith
@@ -96,7 +96,7 @@ abbrev is_row : List ℕ → List ℕ → Bool
 is_row row begins = (nat_eq (length row) 16 && all_below 16 row) && N.bytes_eq row (begins ++ drop (length begins) row)
 
 tested : (row begins : List ℕ) → is_row row begins ≡ true → IsRow row begins
-tested row begins h = grind (arith, N.and_parts, nat_eq, all_below, each_below, N.bytes_eq-Decides)
+tested row begins h = grind (arith, N.and_parts, each_below, N.bytes_eq-Decides)
 
 pub pair_row : (mask : ℕ) → mask < 256 → IsRow (get_or N.PAIRS mask []) (placed 2 0 (zip2 pair_places (bits 8 mask) (bits 8 0)))
 pair_row mask small =

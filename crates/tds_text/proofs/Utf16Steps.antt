@@ -78,7 +78,6 @@ next_alone low high low' high' bytes h l =
 next_pair : (low high low' high' : ℕ) (bytes : List ℕ) → is_high low high ≡ true → is_low_surrogate (low' + 256 * high') ≡ true
     → IsNext (low ∷ high ∷ low' ∷ high' ∷ bytes) (N.surrogate_pair_char (low + 256 * high) (low' + 256 * high')) 4
 next_pair low high low' high' bytes h l =
-    let second : is_high low' high' ≡ false = grind arith in
     record {
       emits = emits_by (low ∷ high ∷ low' ∷ high' ∷ bytes) bytes (N.surrogate_pair_char (low + 256 * high) (low' + 256 * high'))
           (grind (arith, front_step, spells_pair, front));
@@ -170,5 +169,4 @@ pub some_leads : {kept own : List ℕ} (piece bytes : List ℕ) (used : ℕ) →
     → bytes ≡ kept ++ take 3 piece → N.LeavesRest bytes 0 used
     → N.Leads rest text (own ++ piece) (drop (used - length kept) piece) (emit rest text (seam own piece))
 some_leads {kept} piece bytes used same some long is left =
-    let three : length (take 3 piece) ≡ 3 = grind arith in
     rw (← same, seam_some kept piece some, ← is) (Leads-seam joins_utf16 kept piece bytes 3 used is tt (grind (arith, N.length-append)) left.within left.rest)

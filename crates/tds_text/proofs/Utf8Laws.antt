@@ -71,7 +71,7 @@ regrouped a b = cc (front-rest a, N.append_assoc (front a) (rest a) b)
 
 -- the front of two pieces, and their rest
 valid_len-append : (a b : List ℕ) → utf8_valid_len (a ++ b) ≡ length (front a) + utf8_valid_len (rest a ++ b)
-valid_len-append = grind (arith, regrouped, valid_len-past, front, rest, front_is)
+valid_len-append = grind (arith, regrouped, valid_len-past, front_is)
 
 front-append : (a b : List ℕ) → front (a ++ b) ≡ front a ++ front (rest a ++ b)
 unfolding front

@@ -127,7 +127,6 @@ module _ (us : List ℕ) (n : ℕ) {old new xs : List ℕ} {at end m wide long :
       let vs = take n us in
       let size = N.length-take-le n us (omega arith) in
       let first = first_added (grind (arith, N.length-take)) in
-      let all : 4 + (n - 4) ≡ n = omega arith in
       let others = more.adds (drop 4 vs) (flat_map quad_bytes (drop (n - 4) (drop 4 us))) (grind (arith, N.length-drop))
       (grind (arith, N.drop-take, split_lanes)) (last_lanes is_wide vs wide_is)
       (last_lanes is_long vs long_is) (grind (arith, each_left, each_taken, unit_range)) in
@@ -157,7 +156,6 @@ module _ (us low old new : List ℕ) (at n : ℕ) (fits : Each1 (Fits w16) us) (
       → take (at + 3 * n) new ≡ take at old ++ units_text (take n us)
   in_two_halves high middle many most high_is first second =
       let k = 3 * n - 12 in
-      let end : at + 12 + k ≡ at + 3 * n = omega arith in
       let all : 12 + k ≡ 3 * n = omega arith in
       let back : take k high ≡ take k (drop 12 (triples us)) =
       rw (← N.take-take k 12 high (omega arith), high_is, N.take-take k 12 (drop 12 (triples us)) (omega arith)) refl in
