@@ -87,7 +87,8 @@ takes_column room count columns bytes size {a} {b} before after h fits took stan
     let whole : length (take size bytes) ≡ size = N.length-take-le size bytes h.2 in
     let same : after.bytes ≡ before.bytes ++ take size bytes = rw stands refl in
     let longer : length after.bytes ≡ length before.bytes + size = rw (same, N.length-append before.bytes (take size bytes), whole) refl in
-    let peak : after.peak ≡ N.max before.peak (length before.bytes + size) = rw stands (N.ap (N.max before.peak) (N.length-append before.bytes (take size bytes) ∙ N.ap (λ n. length before.bytes + n) whole)) in
+    let peak : after.peak ≡ N.max before.peak (length before.bytes + size) =
+    rw stands (N.ap (N.max before.peak) (N.length-append before.bytes (take size bytes) ∙ N.ap (λ n. length before.bytes + n) whole)) in
     let least = N.ColumnLaws.length-SpellsColumn h.0 (take size bytes) h.1 in
     let spans = with_column_span after.bytes count columns h.0 in (
       h.0,

@@ -492,5 +492,5 @@ module _ {R W : Type 0} {remaining : R → Option (List ℕ)} {contents : W → 
     rows_last end columns known =
         let knows = rw stays.same.3 at known in
         let x = taken columns knows in
-        rw stays.same.3 (rows_whole_last n _ _ _ _ (omega (arith, knows.counted)) (in_row.sink.ready.1 in_row.sink.writing) stays.in_row.sink.ready.2 (rw end at x.writes)
-        (taken_passes x) (reads columns knows))
+        rw stays.same.3 (rows_whole_last n _ _ _ _ (omega (arith, knows.counted)) (in_row.sink.ready.1 in_row.sink.writing) stays.in_row.sink.ready.2
+        (rw end at x.writes) (taken_passes x) (reads columns knows))

@@ -18,5 +18,6 @@ returns-in-Some-clause-gives g c =
       body,
       λ charset room tokens which notice.
           body_passed charset room notice length c.in-Some.ensures.least body (search rules)
-          (Takes-more (seen remaining between) (seen remaining c.consume-in-Some.new.self) body 0 n (omega arith) c.consume-in-Some.ensures.gives) (search rules) (rw rest c.in-Some.ensures.holds),
+          (Takes-more (seen remaining between) (seen remaining c.consume-in-Some.new.self) body 0 n (omega arith) c.consume-in-Some.ensures.gives)
+          (search rules) (rw rest c.in-Some.ensures.holds),
     )

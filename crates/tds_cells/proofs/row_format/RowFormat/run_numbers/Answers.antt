@@ -40,5 +40,6 @@ returns-then-not-begins_row-clause-rows g c =
     let row = c.in-Some-run_row.ensures in
     let all : length c.row-row.result.now ≡ row_format.count = row_length row_format c.row-row.result.now known.0 c.row-row.ensures.row in
     let whole : run.cells ≡ row_format.count = row.whole ∙ all in
-    rw (c.ended.ensures, all) (known_ran (λ walk. row_far row_format c.row-row.result.now run c.run_row.new.to known.0 known.1 c.row-row.ensures.row whole row.kept
+    rw (c.ended.ensures, all) (known_ran (λ walk.
+    row_far row_format c.row-row.result.now run c.run_row.new.to known.0 known.1 c.row-row.ensures.row whole row.kept
     (search (arith, N.rules)) row.begun (row.row row_format.charset) (ran_at l.invariant.ran walk)))
