@@ -59,6 +59,14 @@ class HeldFile:
         self.close()
 
 
+class ReadFailed(Exception):
+    """What the method of a source raised that reads from it: nothing is read from that any more."""
+
+    def __init__(self, failure: Exception) -> None:
+        super().__init__(failure)
+        self.failure = failure
+
+
 class Feeding:
     """A thread that hands the packets of one response to the program. What ends it early is in `error`."""
 
@@ -74,6 +82,8 @@ class Feeding:
             is_whole = self._copy(self._program.put)
         except BrokenPipeError:
             is_whole = True  # the program needs no more
+        except ReadFailed as failed:
+            self.error = failed.failure
         except BaseException as error:
             self.error = error
         finally:
@@ -273,4 +283,19 @@ def _read_of(source: Any) -> Callable[[int], bytes]:
         raise TypeError(f"a path, bytes, or an open binary file, socket or descriptor is needed, not {type(source).__name__}")
     if getattr(source, "closed", False):
         raise ValueError("the source is closed")
-    return cast("Callable[[int], bytes]", read)
+    return _guarded(read)
+
+
+def _guarded(read: Callable[[int], Optional[bytes]]) -> Read:
+    """The same method, of which whatever it raises is ReadFailed."""
+
+    def reads(most: int) -> bytes:
+        try:
+            data = read(most)
+        except Exception as failure:
+            raise ReadFailed(failure) from None
+        if data is None:
+            raise ReadFailed(BlockingIOError("the source doesn't block"))
+        return data
+
+    return reads

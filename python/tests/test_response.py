@@ -14,7 +14,8 @@ import unittest
 from collections.abc import Iterator
 from datetime import datetime
 from decimal import Decimal
-from typing import Any
+from types import SimpleNamespace
+from typing import Any, Optional
 
 import gavyreto
 from gavyreto.program import report_of
@@ -231,6 +232,24 @@ class Sources(unittest.TestCase):
             for row in came.only():
                 rows.append(row)
         self.assertEqual([row[0] for row in rows[:3]], [1, 2, 3])
+
+    def test_a_read_that_fails_once(self) -> None:
+        """What it raises is raised, also what the package itself raises of a response that it can't follow. Nothing is read after it."""
+        for adapt in (False, True):
+            for failure in (ValueError("once"), None):
+                data, failures = io.BytesIO(wire("orders", 3000, 512)), [failure]
+
+                def read(most: int) -> Optional[bytes]:
+                    if data.tell() == 5000 and failures:
+                        if failed := failures.pop():
+                            raise failed
+                        return None
+                    return data.read(min(most, 5000 - data.tell()) if failures else most)
+
+                source: Any = SimpleNamespace(read=read)
+                with self.subTest(adapt=adapt, failure=failure), self.assertRaises(type(failure) if failure else BlockingIOError):
+                    all_of(export(source, adapt=adapt))
+                self.assertEqual(data.tell(), 5000)
 
     def test_a_socket_is_read_up_to_the_response_and_no_further(self) -> None:
         ours, theirs = socket.socketpair()
