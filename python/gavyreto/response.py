@@ -159,7 +159,8 @@ def export(
 
     source       the packets: the path of a file, the bytes themselves, or an open binary file, socket or descriptor, of
                  which exactly one response is read, from where it is. A descriptor, an unbuffered file and a socket have to
-                 block
+                 block. A buffered file of a pipe waits in its `close` for bytes that are asked for: to leave a reading of
+                 one by Ctrl-C, give its descriptor
     dates        True if dates, times and GUIDs become date, time, datetime and UUID, but for columns of seven digits of a
                  second; "truncate" if these do too, and lose the seventh
     adapt        whether columns that the program refuses are rewritten, as the command adapt does; float and real are float then,
