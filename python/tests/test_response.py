@@ -6,6 +6,7 @@ import gzip
 import io
 import os
 import pickle
+import random
 import socket
 import subprocess
 import tempfile
@@ -235,21 +236,23 @@ class Sources(unittest.TestCase):
 
     def test_a_read_that_fails_once(self) -> None:
         """What it raises is raised, also what the package itself raises of a response that it can't follow. Nothing is read after it."""
-        for adapt in (False, True):
+        packets, chance = wire("orders", 300, 512), random.Random(7)
+        for place in [0, *chance.sample(range(1, len(packets)), 15)]:
             for failure in (ValueError("once"), None):
-                data, failures = io.BytesIO(wire("orders", 3000, 512)), [failure]
+                for adapt in (False, True):
+                    data, failures = io.BytesIO(packets), [failure]
 
-                def read(most: int) -> Optional[bytes]:
-                    if data.tell() == 5000 and failures:
-                        if failed := failures.pop():
-                            raise failed
-                        return None
-                    return data.read(min(most, 5000 - data.tell()) if failures else most)
+                    def read(most: int) -> Optional[bytes]:
+                        if data.tell() == place and failures:
+                            if failed := failures.pop():
+                                raise failed
+                            return None
+                        return data.read(min(most, place - data.tell()) if failures else most)
 
-                source: Any = SimpleNamespace(read=read)
-                with self.subTest(adapt=adapt, failure=failure), self.assertRaises(type(failure) if failure else BlockingIOError):
-                    all_of(export(source, adapt=adapt))
-                self.assertEqual(data.tell(), 5000)
+                    source: Any = SimpleNamespace(read=read)
+                    with self.subTest(place=place, adapt=adapt), self.assertRaises(type(failure) if failure else BlockingIOError):
+                        all_of(export(source, adapt=adapt))
+                    self.assertEqual(data.tell(), place)
 
     def test_a_socket_is_read_up_to_the_response_and_no_further(self) -> None:
         ours, theirs = socket.socketpair()
