@@ -8,7 +8,7 @@ use crate::checks::{expect, same};
 use std::alloc::{AllocError, Global};
 use std::io::Read;
 use std::test::Fail;
-use tds_columns::{Columns, Described, gather, read_into, read_type_info};
+use tds_columns::{Columns, Described, gather, gather_next, read_into, read_type_info};
 use tds_meter::Area;
 use tds_packet::rig::{RepeatingReader, ScriptedReader};
 use tds_packet::{Counted, Fault, Payload, Place, Stop};
@@ -23,7 +23,10 @@ const MAX_WIRE: u64 = 1_000_000_000;
 // A description of a four-byte integer named a.
 const ONE_INT: &[u8] = &[1, 0, 0, 0, 0, 0, 8, 0, 0x38, 1, 0x61, 0];
 
-// Two of them.
+// One that is as long, named b.
+const OTHER_INT: &[u8] = &[1, 0, 0, 0, 0, 0, 8, 0, 0x38, 1, 0x62, 0];
+
+// Two of the first.
 const TWO_INTS: &[u8] = &[
     2, 0, 0, 0, 0, 0, 0, 0, 0x38, 1, 0x61, 0, 0, 0, 0, 0, 0, 0, 0x38, 1, 0x61, 0,
 ];
@@ -319,4 +322,43 @@ fn a_failed_read_stops(rt: HostRuntime) -> Result<(), Fail> {
     expect(&rt, "the stop again", again == stop);
     expect(&rt, "nothing is kept", area.is_empty());
     Ok(())
+}
+
+// Reads two descriptions, the second into the area that has the first, and answers how many columns each has.
+fn read_both<R: Read>(payload: &mut Payload<R>, area: &mut Area) -> Result<(u16, u16), Stop>
+    requires sound { IsSound payload.old }
+    requires room { 2 ≤ area.old.room }
+{
+    let first = match gather_next(payload, area, false)? {
+        Described::Columns(count) => count,
+        Described::NoMetadata => return Ok((0, 0)),
+    };
+    match gather_next(payload, area, true)? {
+        Described::Columns(count) => Ok((first, count)),
+        Described::NoMetadata => Ok((first, 0)),
+    }
+}
+
+// Reads the description of an int, and then another of so many columns, which comes in the same packet.
+fn check_second(alloc: Global, second: &[u8], columns: u16) -> Result<(), Fail> {
+    let length = (8 + ONE_INT.len() + second.len()).min(255) as u8;
+    let mut wire = Vec::new(alloc);
+    wire.extend_from_slice(&[0x04, 0x00, 0x00, length, 0x00, 0x00, 0x01, 0x00])?;
+    wire.extend_from_slice(ONE_INT)?;
+    wire.extend_from_slice(second)?;
+    let mut from = Counted::new(ScriptedReader::new(&wire, 512));
+    let mut packet = Area::new(alloc, 512)?;
+    let mut area = new_area(alloc, ROOM)?;
+    let mut payload = Payload::new(&mut from, &mut packet, MAX_WIRE);
+    let came = read_both(&mut payload, &mut area);
+    same("columns", &came, &Ok((1, columns)))?;
+    same("a description", &area.bytes(), &second)
+}
+
+// The same description comes again, or another of as many bytes, or of more.
+#[test]
+fn a_description_comes_again(rt: HostRuntime) -> Result<(), Fail> {
+    check_second(rt.alloc(), ONE_INT, 1)?;
+    check_second(rt.alloc(), OTHER_INT, 1)?;
+    check_second(rt.alloc(), TWO_INTS, 2)
 }

@@ -6,6 +6,7 @@ use N.ViewLaws.{all_after, from_type}
 use Rattle.std.proofs.Math.Seq.{take-add}
 use Rattle.tds_packet.proofs.Futures.{Takes-more}
 use Rattle.tds_columns.specs.Gather.{BeginsColumn, BeginsColumns, BeginsDescription}
+use Rattle.tds_columns.specs.View.{IsDescription}
 
 -- a byte more
 one_further : (n : ℕ) (bytes : List ℕ) → n + 1 ≤ length bytes → take (n + 1) bytes ≡ take n bytes ++ N.slice_index bytes n ∷ []
@@ -49,14 +50,13 @@ columns_begin bytes count size more h all = let one = rw (all_after bytes size) 
   omega (arith, N.length-drop size bytes, h.3, one.2),
 )
 
--- the description is taken
-pub takes_whole : (room : ℕ) (bytes : List ℕ) (count size : ℕ) {a b : N.PayloadView} (before after : N.Space) {place place' : ℕ}
-    → BeginsDescription room bytes count size → N.Takes a b (take size bytes) 0 → before.bytes ≡ []
-    → after ≡ N.appended before (take size bytes) → place' ≡ place + size → (columns : List N.Column) × (length columns ≡ count)
-    × N.Describes room N.BeforeCount a b place place' before.peak after (N.WholeDescription after.bytes columns)
+-- the description is in the area, and was taken
+pub keeps_whole : (room : ℕ) (bytes : List ℕ) (count size : ℕ) {a b : N.PayloadView} (peak : ℕ) (after : N.Space) {place place' : ℕ}
+    → BeginsDescription room bytes count size → N.Takes a b (take size bytes) 0 → after.bytes ≡ take size bytes → after.peak ≤ N.max peak size
+    → place' ≡ place + size → (columns : List N.Column) × (length columns ≡ count)
+    × N.Describes room N.BeforeCount a b place place' peak after (N.WholeDescription after.bytes columns)
     × N.Takes a b after.bytes (length after.bytes) × N.SpellsDescription room columns after.bytes
-takes_whole room bytes count size {a} {b} before after {place} {place'} h took none stands at =
-    let same : after.bytes ≡ take size bytes = grind arith in
+keeps_whole room bytes count size {a} {b} peak after {place} {place'} h took same low at =
     let whole : length (take size bytes) ≡ size = N.length-take-le size bytes h.3 in
     let all : N.Takes a b (take size bytes) (length (take size bytes)) = Takes-more a b (take size bytes) 0 _ (omega arith) took in (
       h.0,
@@ -65,12 +65,37 @@ takes_whole room bytes count size {a} {b} before after {place} {place'} h took n
         reads = record { bytes = take size bytes; spelt = rw same (N.ColumnLaws.description_is_read room h.0 (take size bytes) h.2); takes = all };
         place_is = rw whole at;
         kept = refl;
-        bound = rw stands (omega (arith, N.ap length none, N.length-append before.bytes (take size bytes)));
+        bound = rw (same, whole) (omega (arith, low));
         further = rw (same, whole) (omega (arith, N.ap length h.2.spelt));
       },
       rw same all,
       rw same h.2,
     )
+
+-- the description is taken
+pub takes_whole : (room : ℕ) (bytes : List ℕ) (count size : ℕ) {a b : N.PayloadView} (before after : N.Space) {place place' : ℕ}
+    → BeginsDescription room bytes count size → N.Takes a b (take size bytes) 0 → before.bytes ≡ []
+    → after ≡ N.appended before (take size bytes) → place' ≡ place + size → (columns : List N.Column) × (length columns ≡ count)
+    × N.Describes room N.BeforeCount a b place place' before.peak after (N.WholeDescription after.bytes columns)
+    × N.Takes a b after.bytes (length after.bytes) × N.SpellsDescription room columns after.bytes
+takes_whole room bytes count size before after h took none stands at =
+    let whole : length (take size bytes) ≡ size = N.length-take-le size bytes h.3 in
+    keeps_whole room bytes count size before.peak after h took (grind arith)
+    (rw stands (omega (arith, N.ap length none, N.length-append before.bytes (take size bytes), whole))) at
+
+-- the description that the area has comes again, and was taken
+pub takes_again : (area : N.Space) (count : ℕ) (next : List ℕ) {a b : N.PayloadView} {place place' : ℕ} → IsDescription area.bytes
+    → ((room : ℕ) (columns : List N.Column) → N.SpellsDescription room columns area.bytes → count ≡ length columns) → length area.bytes ≤ area.room
+    → length area.bytes ≤ length next → take (length area.bytes) next ≡ area.bytes → N.Takes a b (take (length area.bytes) next) 0
+    → place' ≡ place + length area.bytes → (columns : List N.Column) × (length columns ≡ count)
+    × N.Describes area.room N.BeforeCount a b place place' area.peak area (N.WholeDescription area.bytes columns)
+    × N.Takes a b area.bytes (length area.bytes) × N.SpellsDescription area.room columns area.bytes
+takes_again area count next h counts fits within same took at =
+    let d = h.2 in
+    let again : N.SpellsDescription area.room h.1 area.bytes =
+    record { rest = d.rest; spelt = d.spelt; some = d.some; most = d.most; each = d.each; within = fits } in
+    keeps_whole area.room next count (length area.bytes) area.peak area (h.1, N.sym (counts h.0 h.1 d), rw same again, within) took (N.sym same)
+    (omega arith) at
 
 -- what is kept of a description after a further column
 with_column_span : (bytes : List ℕ) (count : ℕ) (columns : List N.Column) (c : N.Column) → let d = N.with_column bytes count columns c in

@@ -17,7 +17,7 @@ use crate::return_value::pass_return;
 use crate::tokens::{TokenKind, judge_token, next_byte};
 use byteorder::{ByteOrder, LittleEndian};
 use std::io::{Read, Write};
-use tds_columns::{Columns, Described, gather};
+use tds_columns::{Columns, Described, gather_next};
 use tds_csv::{Sink, utf16_into};
 use tds_meter::Area;
 use tds_packet::{Fault, Payload, Stop};
@@ -47,7 +47,8 @@ impl<'a, 'p, 's, R: Read, W: Write> Exporter<'a, 'p, 's, R, W> {
         requires { IsInToken self.old }
         ensures { StepRead R.remaining W.contents in_metadata self.old self.new result }
     {
-        if let Described::NoMetadata = gather(self.payload, self.description)? {
+        let described = self.progress.described;
+        if let Described::NoMetadata = gather_next(self.payload, self.description, described)? {
             self.progress.described = false;
             return Ok(());
         }

@@ -22,6 +22,7 @@ class Maker:
 
     def __init__(self, seed: int) -> None:
         self.random = random.Random(seed)
+        self.before: tuple[list[plain.Kind], list[bytes]] = [], []  # what the last set was described by
 
     def is_chosen(self, share: float) -> bool:
         return self.random.random() < share
@@ -123,11 +124,17 @@ class Maker:
         values = [self.cell(kind) for kind, is_null in zip(kinds, nulls) if not is_null]
         return nbc_row(little(bits, (len(kinds) + 7) // 8), *values)
 
+    def described(self) -> tuple[list[plain.Kind], list[bytes]]:
+        """Kinds, and the columns that describe them: at times those of the set before."""
+        if not self.before[0] or self.is_chosen(0.7):
+            kinds = [self.kind() for _ in range(self.random.choice([1, 1, 2, 3, 8, 9, 20, 70]))]
+            self.before = kinds, [self.any_bytes(6) + bytes([kind.byte]) + kind.rest + self.name() for kind in kinds]
+        return self.before
+
     def result_set(self) -> bytes:
         if self.is_chosen(0.05):
             return NO_METADATA
-        kinds = [self.kind() for _ in range(self.random.choice([1, 1, 2, 3, 8, 9, 20, 70]))]
-        columns = [self.any_bytes(6) + bytes([kind.byte]) + kind.rest + self.name() for kind in kinds]
+        kinds, columns = self.described()
         read = [kind for kind in kinds if kind.byte in plain.FIXED or kind.byte in plain.REST]
         rows = [self.row(read) for _ in range(self.random.choice([0, 1, 1, 2, 5, 12]))]
         return description(*columns) + b"".join(rows)

@@ -204,6 +204,13 @@ def sets() -> Iterator[Case]:
     yield case_of("a set and a refused one", A_SET + columns_of(b"\x3E"))
     yield case_of("a set and a cut one", A_SET + other[:-1])
     yield case_of("a set and no DONE", A_SET)
+    one, another = (description(column(INT, name_of("a")), column(INT, name_of(name))) for name in "bc")
+    values = row(SEVEN, SEVEN)
+    yield case_of("a description again", one + values + one + values + DONE)
+    yield case_of("a description again, but for its last name", one + values + another + values + DONE)
+    yield case_of("a description again, cut", one + values + one[:-1])
+    yield case_of("a description again, and a column more", one + values + description(*[column(INT, name_of("a"))] * 3) + values + SEVEN + DONE)
+    yield case_of("a description again, after no metadata", one + values + NO_METADATA + one + values + DONE)
 
 
 def names() -> Iterator[Case]:

@@ -4,29 +4,30 @@ use N.{rules}
 use N.TokenSteps.{metadata_breaks, metadata_reads, metadata_stops, none_reads, step_read}
 
 pub returns-in-NoMetadata : goal.returns-in-NoMetadata
-returns-in-NoMetadata g c = step_read c.requires.running (search rules) (λ tokens begun. let gives = rw c.in-NoMetadata.is at c.in_ok-gather.ensures.gives in
+returns-in-NoMetadata g c = step_read c.requires.running (search rules) (λ tokens begun.
+    let gives = rw c.in-NoMetadata.is at c.in_ok-gather_next.ensures.gives in
     none_reads _ begun gives.0)
 
-pub returns-in_err-gather : goal.returns-in_err-gather
-returns-in_err-gather g c = step_read c.requires.running (search rules) (λ tokens begun. N.passed _ _ _ _ c.from_residual.ensures.1
-    (metadata_stops _ begun (c.in_err-gather.ensures.gives c.requires.running.payload.going).describing))
+pub returns-in_err-gather_next : goal.returns-in_err-gather_next
+returns-in_err-gather_next g c = step_read c.requires.running (search rules) (λ tokens begun. N.passed _ _ _ _ c.from_residual.ensures.1
+    (metadata_stops _ begun (c.in_err-gather_next.ensures.gives c.requires.running.payload.going).describing))
 
 pub view-columns-requires : goal.view-columns-requires
 view-columns-requires g c =
-    let gives = rw c.in_default.is at c.in_ok-gather.ensures.gives in
+    let gives = rw c.in_default.is at c.in_ok-gather_next.ensures.gives in
     N.subst N.IsDescription (N.sym c.bytes.ensures.value) (c.args.self.now.description.now.room, gives.0, gives.4)
 
 pub returns-in_err-put_header : goal.returns-in_err-put_header
 returns-in_err-put_header g c = step_read c.requires.running (search rules) (λ tokens begun. let sink = c.requires.running.sink in
-    let gives = rw c.in_default.is at c.in_ok-gather.ensures.gives in
+    let gives = rw c.in_default.is at c.in_ok-gather_next.ensures.gives in
     let breaks = rw (c.view-columns.ensures, c.bytes.ensures.value) at (c.in_err-put_header.ensures.gives sink.writing) in
     N.passed _ _ _ _ c.from_residual-in_err-put_header.ensures.1 (N.inr (
       metadata_breaks _ begun (N.description_shows _ _ _ gives.4).0 gives.2 (sink.ready.1 sink.writing)
-          (N.between_of g.R.Read.remaining c.gather.new.payload c.in_ok-gather.ensures.payload.going) breaks,
+          (N.between_of g.R.Read.remaining c.gather_next.new.payload c.in_ok-gather_next.ensures.leaves.payload.going) breaks,
       c.in_err-put_header.ensures.failed,
     )))
 
 pub returns : goal.returns
-returns g c = step_read c.requires.running (search rules) (λ tokens begun. let gives = rw c.in_default.is at c.in_ok-gather.ensures.gives in
+returns g c = step_read c.requires.running (search rules) (λ tokens begun. let gives = rw c.in_default.is at c.in_ok-gather_next.ensures.gives in
     let puts = rw (c.view-columns.ensures, c.bytes.ensures.value) at c.in_ok-put_header.ensures.gives in
     metadata_reads _ begun (N.description_shows _ _ _ gives.4).0 gives.2 puts)
