@@ -104,6 +104,10 @@ before_comma made column to fields some within is =
     sym (N.take-take _ made to (omega arith)) ∙ ap (take _) comma
     ∙ N.take-append-le _ fields _ (omega arith) ∙ N.take_all _ fields (omega arith)
 
+-- the bytes of the first cell were used, which are this many
+abbrev pub FirstUsed : List CellFormat → List ℕ → ℕ → Type 0
+FirstUsed formats bytes used = (format : CellFormat) (rest : List CellFormat) → formats ≡ format ∷ rest → used ≡ N.whole_size format.kind bytes
+
 module _ (charset : Charset) (formats : List CellFormat) (column : ℕ) (bytes : List ℕ) where
   pub fields_more : (to text rest : List ℕ) (k used u now made m : ℕ) (d : CellFormat) → now ≡ used + u → made ≤ length to → m < length text
       → k < length formats → N.WritesField charset (get_or formats k d).kind (take u (unused used bytes)) (take m text)
@@ -126,7 +130,7 @@ module _ (charset : Charset) (formats : List CellFormat) (column : ℕ) (bytes :
       let next : suc k ≡ k + 1 = omega arith in
       rw further (grind arith)
 
-  pub first_alone : (ends : Bool) (to : List ℕ) (used made : ℕ) (fields : List ℕ) → N.FirstUsed formats bytes used
+  pub first_alone : (ends : Bool) (to : List ℕ) (used made : ℕ) (fields : List ℕ) → FirstUsed formats bytes used
       → N.WritesFormats charset formats column 1 (take used bytes) fields → take made to ≡ fields ++ end_after (ends && (1 == length formats))
       → N.FirstWritten charset formats column ends bytes to (record { cells = 1; used = used; made = made })
   first_alone ends _ _ _ _ size (front, rest, before, field, b, t, x, y) is = λ format others are.
@@ -136,7 +140,7 @@ module _ (charset : Charset) (formats : List CellFormat) (column : ℕ) (bytes :
       ap (λ l. l ++ end_after last) (ap (λ (n : ℕ). N.after_comma n field) (let n : column ≡ column + 0 = omega arith in n)
       ∙ sym (grind arith)) ∙ sym is in
       let kind_is = ap (λ (l : List CellFormat). (get_or l 0 format).kind) are in
-      record { size = search N.rules; writes = rw kind_is at (rw text at (rw read at (y format column last))) }
+      (search N.rules, rw kind_is at (rw text at (rw read at (y format column last))))
 
 -- what is written from `at` on
 pub beyond_kept : (at m : ℕ) (to x rest : List ℕ) → at ≤ length to → m ≤ length x → take m (drop at (take at to ++ (x ++ rest))) ≡ take m x
@@ -238,7 +242,7 @@ line_beyond at k m end old comma rest text new e (within, few, fits, ends) kept 
 
 -- the bytes of the first cell were used
 first_used : (formats : List CellFormat) (bytes : List ℕ) (used u k : ℕ) (d : CellFormat) → k ≡ 0 → used ≡ 0
-    → u ≡ N.whole_size (get_or formats k d).kind (unused used bytes) → N.FirstUsed formats bytes (used + u)
+    → u ≡ N.whole_size (get_or formats k d).kind (unused used bytes) → FirstUsed formats bytes (used + u)
 first_used _ _ _ u k d first none size _ _ are = grind (arith, N.all_after)
 
 -- what is left of the bytes, after some more of them
@@ -257,7 +261,7 @@ pub record FieldsAt (formats : List CellFormat) (bytes : List ℕ) (room cells u
   pub begun : cells ≡ 0 → (used ≡ 0) × (made ≤ 1)
   pub some : 0 < cells → 0 < used
   pub further : 0 < cells → (0 < made) × (made < room)
-  pub one : cells ≡ 1 → N.FirstUsed formats bytes used
+  pub one : cells ≡ 1 → (format : CellFormat) (rest : List CellFormat) → formats ≡ format ∷ rest → used ≡ N.whole_size format.kind bytes
 
 -- one cell more, and the comma after it
 pub fields_step : {formats : List CellFormat} {bytes : List ℕ} {room more_room cells used now made : ℕ} (u m : ℕ) (d : CellFormat)

@@ -1,6 +1,10 @@
 -- Cells by how their values are laid out.
 use Rattle.tds_cells.proofs.Words as N
 use Rattle.tds_cells.proofs.Words.{◌&&◌, ◌≡◌, ℕ, ◌<◌, true, List, length, arith, Kind, CellFormat, Layout, Each}
+use Rattle.tds_cells.specs.LongFields.{LongWritten}
+use Rattle.tds_cells.specs.CellTexts.{CellWritten}
+use Rattle.tds_values.specs.declared.kind.Reach.{Reach}
+use Rattle.tds_values.specs.declared.span.Span.{Span}
 use Rattle.tds_cells.specs.declared.layout.Layout.TheVariants.{Chunked, Counted, Fixed, Short as ShortLayout}
 
 pub each_all : (P : CellFormat → Type 0) (n : ℕ) (f : CellFormat) → P f → Each P (N.replicate n f)
@@ -49,6 +53,11 @@ module _ (charset : N.Charset) (kind : Kind) where
   pub chunked_whole : (content : N.Content) (bytes : List ℕ) → N.IsLaidOut charset kind (Chunked content)
       → N.chunked_size bytes ≡ N.whole_size kind bytes
   chunked_whole _ _ laid = grind arith
+
+-- a long value was written, and so the cell of a kind that is one
+pub long_laid : (charset : N.Charset) (kind : Kind) (c : N.Conversion) (reach : Reach) (bytes text : List ℕ) (room : ℕ) (result : N.Option Span)
+    → N.shape charset kind ≡ N.LongShape c reach → LongWritten c reach bytes room text result → CellWritten charset kind bytes room text result
+long_laid _ _ _ _ _ _ _ _ is x = grind arith
 
 -- where there are no bytes, a cell is left
 pub empty_left : (charset : N.Charset) (kind : Kind) (l : Layout) (bytes : List ℕ) (room : ℕ) → N.IsLaidOut charset kind l

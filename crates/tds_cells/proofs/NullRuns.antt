@@ -47,9 +47,9 @@ inner_null k n some within =
 
 -- columns that are NULL by their bit, after the first and before the last
 pub nulls_inside : (nulls : ℕ → Bool) (from n count : ℕ) → 0 < from → from + n < count → AreSet nulls from (from + n)
-    → WritesNulls nulls from count n (nulls_text n)
-nulls_inside nulls from zero count _ _ _ = λ charset columns counted. (refl, refl)
-nulls_inside nulls from (suc n) count some within set = λ charset columns counted.
+    → (charset : Charset) (columns : List Column) → length columns ≡ count → N.WritesMarked charset columns nulls from n [] (nulls_text n)
+nulls_inside _ _ zero _ _ _ _ _ _ _ = (refl, refl)
+nulls_inside nulls from (suc n) count some within set charset columns counted =
     let one = null_column charset columns nulls (from + n) (omega arith) (set (from + n) (omega arith) (omega arith)) in
     let text = inner_null (from + n) (length columns) (omega arith) (omega arith) in (
       [],
@@ -64,6 +64,10 @@ nulls_inside nulls from (suc n) count some within set = λ charset columns count
 
 -- the next column alone
 pub null_alone : (nulls : ℕ → Bool) (at count : ℕ) → at < count → nulls at ≡ N.true → WritesNulls nulls at count 1 (N.in_line at (at + 1 == count) N.null_field)
-null_alone nulls at count within null = λ charset columns counted.
-    let one = rw counted at (null_column charset columns nulls at (omega arith) null) in
-    ([], [], [], _, refl, refl, (refl, refl), rw (N.add-zero at) one)
+null_alone nulls at count within null = record {
+  some = omega arith;
+  within = omega arith;
+  writes = λ charset columns counted.
+      let one = rw counted at (null_column charset columns nulls at (omega arith) null) in
+      ([], [], [], _, refl, refl, (refl, refl), rw (N.add-zero at) one);
+}

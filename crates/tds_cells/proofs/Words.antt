@@ -39,7 +39,7 @@ pub use Rattle.tds_cells.specs.Cells.{SpellsChunked, cell_size, unless, shape}
 pub use Rattle.tds_cells.specs.Cells.{ScalarBytes, Total, field, SpellsShort, Shape, known_total, FixedShape, field_so_far, ChunkData, CellPart}
 pub use Rattle.tds_cells.specs.Cells.{SpellsChunk, SpellsChunks, LongShape, shape_of_length, Cell, is_total, SpellsCell}
 pub use Rattle.tds_cells.specs.Cells.{DataCell}
-pub use Rattle.tds_cells.specs.FormatRuns.{run_since, FormatsWritten, FirstLeft, FieldsWritten, AreNext, WritesFormats, FirstUsed, FirstWritten, RunsFormats}
+pub use Rattle.tds_cells.specs.FormatRuns.{run_since, FormatsWritten, FirstLeft, FieldsWritten, AreNext, WritesFormats, FirstWritten, RunsFormats}
 pub use Rattle.tds_cells.specs.FormatRuns.{WritesFields}
 pub use Rattle.tds_cells.specs.Formats.{AreCounted, AreInt4, AreLaidOut, Each}
 pub use Rattle.tds_cells.specs.Layouts.{IsLaidOut}

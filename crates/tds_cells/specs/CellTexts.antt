@@ -1,5 +1,5 @@
 -- What reading a cell and putting it into its line does.
-use Rattle.std.specs.Prelude.{◌≡◌, ◌==◌, ◌⊎◌, ◌+◌, ◌<◌, ◌≤◌, ℕ, Bool, true, false, List, [], ◌∷◌, length, take, is_ok, Option}
+use Rattle.std.specs.Prelude.{◌≡◌, ◌==◌, ◌⊎◌, ◌+◌, ◌-◌, ◌<◌, ◌≤◌, ℕ, Bool, true, false, List, [], ◌∷◌, length, take, is_ok, Option}
 use Rattle.std.specs.Prelude.{Some, None, IsTrue, MatchOption, if◌then◌else◌}
 use Rattle.tds_values.specs.declared.kind.Kind.{Kind}
 use Rattle.tds_values.specs.declared.kind.Kind.TheVariants.{Int4, IntN}
@@ -11,7 +11,7 @@ use Rattle.tds_text.specs.Quoting.{after_comma, in_line}
 use Rattle.tds_values.specs.declared.charset.Charset.{Charset}
 use Rattle.tds_values.specs.declared.span.Span.{Span}
 use Rattle.tds_cells.specs.LongFields.{IsShapeLeft, long_size, reach_of}
-use Rattle.tds_cells.specs.WholeCells.{WritesCell, WritesWhole}
+use Rattle.tds_cells.specs.WholeCells.{IsCellSpan, WritesCell, WritesWhole}
 use Rattle.tds_cells.specs.Cells.{CellPart, WholeCell, cell, cell_start, field, field_so_far, shape}
 
 -- a field that is open, with the comma before it; nothing if it isn't
@@ -80,7 +80,9 @@ pub record WritesKind (charset : Charset) (kind : Kind) (column : ℕ) (last : B
 abbrev pub WritesField : Charset → Kind → List ℕ → List ℕ → Type 0
 WritesField charset kind bytes field = (column : ℕ) (last : Bool) → WritesKind charset kind column last bytes (in_line column last field)
 
--- The field of the cell at the front of these bytes, this many of them, was written to the front of others; or it is left, with this much room.
+-- The field of the cell at the front of these bytes was written to the front of others, with room for a comma before it and the end of a line after it;
+-- or it is left, with this much room.
 abbrev pub CellWritten : Charset → Kind → List ℕ → ℕ → List ℕ → Option Span → Type 0
 CellWritten charset kind bytes room text result = MatchOption result (IsLeft charset kind bytes room)
-    (λ written. WritesField charset kind (take written.used bytes) (take written.made text))
+    (λ written. IsCellSpan (whole_size kind bytes) (length bytes) (room - 3) written
+    × WritesField charset kind (take written.used bytes) (take written.made text))

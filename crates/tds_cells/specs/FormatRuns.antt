@@ -1,5 +1,5 @@
 -- What a run over cells by their formats does, whose columns follow one another in a row.
-use Rattle.std.specs.Prelude.{◌≡◌, ◌==◌, ◌⊎◌, ◌+◌, ◌-◌, ◌<◌, ◌≤◌, ◌*◌, ◌&&◌, ◌∷◌, ◌++◌, ℕ, zero, suc, Bool, false, List, [], length, map, take, drop}
+use Rattle.std.specs.Prelude.{◌≡◌, ◌==◌, ◌⊎◌, ◌+◌, ◌-◌, ◌<◌, ◌≤◌, ◌*◌, ◌&&◌, ◌∷◌, ◌++◌, ℕ, zero, suc, Bool, false, true, List, [], length, map, take, drop}
 use Rattle.std.specs.Prelude.{get_or}
 use Rattle.tds_columns.specs.Description.{Column}
 use Rattle.tds_text.specs.Quoting.{after_comma}
@@ -8,10 +8,9 @@ use Rattle.tds_cells.specs.declared.layout.CellFormat.{CellFormat}
 use Rattle.tds_cells.specs.declared.whole.TheConstants.{CELL_ROOM}
 use Rattle.tds_cells.specs.declared.run.formats.FormatsRun.{FormatsRun}
 use Rattle.tds_values.specs.declared.span.Span.{Span}
-use Rattle.tds_cells.specs.CellTexts.{IsLeft, IsScalarLeft, WritesField, whole_size}
-use Rattle.tds_cells.specs.Formats.{AreInt4}
+use Rattle.tds_cells.specs.CellTexts.{IsLeft, IsScalarLeft, WritesField, WritesKind, whole_size}
+use Rattle.tds_cells.specs.Formats.{AreCounted, AreInt4}
 use Rattle.tds_cells.specs.MarkedRuns.{WritesMarked}
-use Rattle.tds_cells.specs.Runs.{WritesOne}
 use Rattle.tds_cells.specs.RowFormats.{BeginsRow, kinds}
 
 -- The formats are those of the next columns, which are the row's last if the formats end it.
@@ -32,14 +31,11 @@ abbrev pub FirstLeft : Charset → List CellFormat → List ℕ → ℕ → Type
 FirstLeft charset formats bytes room = (format : CellFormat) (rest : List CellFormat) → formats ≡ format ∷ rest
     → (room < CELL_ROOM) ⊎ IsLeft charset format.kind bytes room
 
--- The bytes of the first cell were used, which are this many.
-abbrev pub FirstUsed : List CellFormat → List ℕ → ℕ → Type 0
-FirstUsed formats bytes used = (format : CellFormat) (rest : List CellFormat) → formats ≡ format ∷ rest → used ≡ whole_size format.kind bytes
-
--- Only the first cell was written so.
+-- Only the first cell was used, with all its bytes, and this is its text in its line.
 abbrev pub FirstWritten : Charset → List CellFormat → ℕ → Bool → List ℕ → List ℕ → FormatsRun → Type 0
 FirstWritten charset formats column ends bytes text run = (format : CellFormat) (rest : List CellFormat) → formats ≡ format ∷ rest
-    → WritesOne charset format.kind column (ends && (1 == length formats)) bytes text run.used run.made
+    → (run.used ≡ whole_size format.kind bytes)
+    × WritesKind charset format.kind column (ends && (1 == length formats)) (take run.used bytes) (take run.made text)
 
 -- The bytes are the cells of this number of formats, and these are their fields after one another, each after its comma.
 abbrev pub WritesFormats : Charset → List CellFormat → ℕ → ℕ → List ℕ → List ℕ → Type 0
@@ -57,7 +53,7 @@ FieldsWritten charset formats column bytes text run = (fields : List ℕ) × Wri
 pub record WritesFields (charset : Charset) (formats : List CellFormat) (column : ℕ) (bytes text : List ℕ) (run : FormatsRun) : Type 0 where
   pub within : IsWithin run (length formats) (length bytes) (length text)
   pub room : 0 < run.cells → (0 < run.made) × (run.made < length text)
-  pub one : run.cells ≡ 1 → FirstUsed formats bytes run.used
+  pub one : run.cells ≡ 1 → (format : CellFormat) (rest : List CellFormat) → formats ≡ format ∷ rest → run.used ≡ whole_size format.kind bytes
   pub fields : FieldsWritten charset formats column bytes text run
 
 -- So many cells of whole numbers of four bytes are there with all their bytes and one more, and with room for their fields and the end of the line.
@@ -70,9 +66,11 @@ pub record IsLatest (cells bytes room : ℕ) (latest : Span) : Type 0 where
   pub used : latest.used + 5 * cells + 1 ≡ bytes
   pub made : latest.made + 12 * cells + 26 ≡ room
 
--- The values of these formats' kinds are whole numbers of four bytes, which are there with their bytes and room.
-pub record AreNumbers (formats : List CellFormat) (bytes room : ℕ) : Type 0 where
+-- The values of these formats' kinds are whole numbers of four bytes, all after their lengths if they are counted, which are there with their bytes and
+-- room.
+pub record AreNumbers (counted : Bool) (formats : List CellFormat) (bytes room : ℕ) : Type 0 where
   pub numbers : AreInt4 formats
+  pub lengths : counted ≡ true → AreCounted formats
   pub within : NumbersWithin (length formats) bytes room
 
 -- A run wrote the text of the bytes that it used, which are the next cells.
@@ -91,6 +89,15 @@ pub record RunsFormats (charset : Charset) (formats : List CellFormat) (column :
 -- what a run did that began in these bytes and this text
 abbrev pub run_since : Span → FormatsRun → FormatsRun
 run_since from run = record { cells = run.cells; used = run.used - from.used; made = run.made - from.made }
+
+-- A run wrote a whole row of numbers, which begins where the span says, as does its text, and after which bytes are left; single-byte text is in any
+-- set.
+pub record RunsRow (formats : List CellFormat) (from : Span) (bytes : List ℕ) (room : ℕ) (text : List ℕ) (run : FormatsRun) : Type 0 where
+  pub whole : run.cells ≡ length formats
+  pub left : run.used < length bytes
+  pub begun : (from.used ≤ run.used) × (from.made ≤ run.made)
+  pub most : run.made ≤ room
+  pub row : (charset : Charset) → RunsFormats charset formats 0 true (drop from.used bytes) (room - from.made) (drop from.made text) (run_since from run)
 
 -- After the cells of a run the next one is refused, which is of a scalar kind.
 abbrev pub IsRefusedAfter : List CellFormat → List ℕ → FormatsRun → Type 0

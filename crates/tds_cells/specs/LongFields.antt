@@ -1,5 +1,5 @@
 -- The fields of long values whose bytes lie together (MS-TDS, Data Stream Types).
-use Rattle.std.specs.Prelude.{◌==◌, ℕ, Bool, List, take, Option, Some, None, MatchOption, if◌then◌else◌}
+use Rattle.std.specs.Prelude.{◌==◌, ◌-◌, ℕ, Bool, List, length, take, Option, Some, None, MatchOption, if◌then◌else◌}
 use Rattle.tds_values.specs.declared.kind.Kind.{Kind}
 use Rattle.tds_values.specs.declared.kind.Kind.TheVariants.{Binary, Narrow, Wide}
 use Rattle.tds_values.specs.declared.kind.Reach.{Reach}
@@ -10,7 +10,7 @@ use Rattle.tds_values.specs.declared.span.Span.{Span}
 use Rattle.tds_cells.specs.Cells.{LongShape, Shape, long_start}
 use Rattle.tds_cells.specs.ChunkedCells.{IsChunkedLeft, chunked_size}
 use Rattle.tds_cells.specs.ShortCells.{IsShortLeft, short_size}
-use Rattle.tds_cells.specs.WholeCells.{WritesWhole}
+use Rattle.tds_cells.specs.WholeCells.{IsCellSpan, WritesWhole}
 
 -- how far the values of a long kind reach
 abbrev pub reach_of : Kind → Reach
@@ -34,12 +34,12 @@ abbrev pub IsShapeLeft : Shape → List ℕ → ℕ → Type 0
 IsShapeLeft (LongShape c reach) bytes room = IsLongLeft c reach bytes room
 IsShapeLeft other bytes room = Unit {0}
 
--- The field of a long value of this conversion was written to the front of others, whose cell is at the front of these bytes, this many of them; or it
--- is left.
+-- The field of a long value of this conversion, whose cell is at the front of these bytes, was written to the front of others, with room for a comma
+-- before it and the end of a line after it; or it is left.
 abbrev pub LongWritten : Conversion → Reach → List ℕ → ℕ → List ℕ → Option Span → Type 0
 LongWritten c reach bytes room text result = MatchOption result (IsLongLeft c reach bytes room)
-    (λ written. (column : ℕ) (last : Bool) → WritesWhole (long_start c reach) column last (take written.used bytes)
-    (in_line column last (take written.made text)))
+    (λ written. IsCellSpan (long_size reach bytes) (length bytes) (room - 3) written × ((column : ℕ) (last : Bool) →
+    WritesWhole (long_start c reach) column last (take written.used bytes) (in_line column last (take written.made text))))
 
 -- what was written of a cell, if any of its bytes were used
 abbrev pub some_written : Span → Option Span

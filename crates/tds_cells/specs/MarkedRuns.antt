@@ -73,10 +73,11 @@ WritesMarked charset columns nulls from (suc n) bytes text = (front : List ℕ) 
     × (bytes ≡ front ++ rest) × (text ≡ before ++ more) × WritesMarked charset columns nulls from n front before
     × WritesColumn charset columns nulls (from + n) rest more
 
--- This many columns from one on, of all these, are NULL by their bit, and this is their text in their line.
-abbrev pub WritesNulls : (ℕ → Bool) → ℕ → ℕ → ℕ → List ℕ → Type 0
-WritesNulls nulls from count n text = (charset : Charset) (columns : List Column) → length columns ≡ count →
-    WritesMarked charset columns nulls from n [] text
+-- This many columns from one on, of all these and at least one, are NULL by their bit, and this is their text in their line.
+pub record WritesNulls (nulls : ℕ → Bool) (from count n : ℕ) (text : List ℕ) : Type 0 where
+  pub some : 0 < n
+  pub within : from + n ≤ count
+  pub writes : (charset : Charset) (columns : List Column) → length columns ≡ count → WritesMarked charset columns nulls from n [] text
 
 -- Between two places of a row the bytes are the cells, each but those that are NULL by their bit, and this is their text; single-byte text is read in
 -- the row format's set.

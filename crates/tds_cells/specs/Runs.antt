@@ -22,6 +22,7 @@ use Rattle.tds_cells.specs.Rows.{PlainRow, RowPart, RowToken, WholeRow, marked, 
 use Rattle.tds_cells.specs.Rows.{bit, token_start}
 use Rattle.tds_cells.specs.MarkedRuns.{CellRun, EndsFar, EndsLeft, MarkedWritten}
 use Rattle.tds_cells.specs.CellTexts.{IsLeft, WritesKind, whole_size}
+use Rattle.tds_cells.specs.WholeCells.{IsCellSpan}
 use Rattle.tds_cells.specs.RowFormats.{BeginsRow, IsCursor, Knows, place}
 
 -- The bytes are whole elements, which lead from one state to another, and this is what the text of the second has more than that of the first.
@@ -122,19 +123,11 @@ LeavesNext row_format from until bytes room run = (columns : List Column) (colum
 abbrev pub EndsLast : RowFormat → ℕ → List ℕ → Type 0
 EndsLast row_format column bytes = column ≡ row_format.count → BeginsRow bytes → ⊥
 
--- A run ended so, or where bytes or room are too few for any scalar.
-abbrev pub EndsFarInRows : RowFormat → Cursor → List ℕ → ℕ → Type 0
-EndsFarInRows row_format at bytes room = EndsFar row_format (λ k. false) at bytes room
-
--- The first bytes, this many, are a whole cell of a kind, and this much of the text is its text in its line.
-pub record WritesOne (charset : Charset) (kind : Kind) (column : ℕ) (last : Bool) (bytes text : List ℕ) (used made : ℕ) : Type 0 where
-  pub size : used ≡ whole_size kind bytes
-  pub writes : WritesKind charset kind column last (take used bytes) (take made text)
-
--- The cell of this kind was written so, or it is left, with this much room.
+-- The cell of this kind at the front of these bytes was written, and its text in its line; or it is left, with this much room.
 abbrev pub AloneWritten : Charset → Kind → ℕ → Bool → List ℕ → ℕ → List ℕ → Option Span → Type 0
 AloneWritten charset kind column last bytes room text result =
-    MatchOption result (IsLeft charset kind bytes room) (λ written. WritesOne charset kind column last bytes text written.used written.made)
+    MatchOption result (IsLeft charset kind bytes room) (λ written. IsCellSpan (whole_size kind bytes) (length bytes) room written
+    × WritesKind charset kind column last (take written.used bytes) (take written.made text))
 
 -- A run wrote the text of the cells between two places of a row, whose bytes it used; none of them is NULL by a bit.
 abbrev pub CellsWritten : RowFormat → Cursor → List ℕ → List ℕ → CellRun → Type 0
@@ -197,4 +190,4 @@ KnownEnds row_format column bytes room = (walk : Walk) → RunEnds row_format (p
 
 -- It ended so, or where bytes or room are too few for any scalar.
 abbrev pub KnownFarEnds : RowFormat → ℕ → List ℕ → ℕ → Type 0
-KnownFarEnds row_format column bytes room = (walk : Walk) → EndsFarInRows row_format (place walk column) bytes room
+KnownFarEnds row_format column bytes room = (walk : Walk) → EndsFar row_format (λ k. false) (place walk column) bytes room

@@ -112,14 +112,10 @@ struct WrittenNulls {
 #[inline(always)]
 fn write_nulls(bitmap: &[u8], column: u16, count: u16, most: usize, to: &mut [u8]) -> WrittenNulls
     requires bitmap { count ≤ 8 * length bitmap.now }
-    requires within { column < count }
-    requires null { bit bitmap.now column ≡ true }
+    requires null { (column < count) × (bit bitmap.now column ≡ true) }
     requires most { 0 < most }
     requires room { CELL_ROOM ≤ length to.old }
-    ensures some { 0 < result.columns }
-    ensures most { result.columns ≤ most }
-    ensures within { column + result.columns ≤ count }
-    ensures made { result.made ≤ 40 }
+    ensures most { (result.columns ≤ most) × (result.made ≤ 40) }
     ensures nulls { WritesNulls (bit bitmap.now) column count result.columns (take result.made to.new) }
 {
     let columns = nulls_ahead(bitmap, column, count).min(most);

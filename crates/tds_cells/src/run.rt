@@ -1,5 +1,5 @@
 // A run of cells: as many as are whole in the packet and have room, over the ends of rows.
-ghost use Rattle.std.specs.Prelude.{false, true, ◌≡◌, ◌==◌, ◌+◌, ◌-◌, ◌<◌, ◌≤◌, drop, length, min, take, IfSome};
+ghost use Rattle.std.specs.Prelude.{false, true, ◌≡◌, ◌==◌, ◌+◌, ◌-◌, ◌<◌, ◌≤◌, drop, length, min, take};
 ghost use Rattle.tds_cells.specs.declared.whole.TheConstants.{CELL_ROOM};
 ghost use Rattle.tds_cells.specs.FormatRuns.{NumbersEnd};
 ghost use Rattle.tds_cells.specs.Layouts.{IsLaidOut};
@@ -189,8 +189,6 @@ impl<'a> RowFormat<'a> {
         requires within { at.column < self.now.count }
         requires laid { IsLaidOut self.now.charset format.now.kind format.now.layout }
         requires room { CELL_ROOM ≤ length to.old }
-        ensures used { IfSome result (λ written. written.used ≤ length bytes.now) }
-        ensures most { IfSome result (λ written. written.made ≤ length to.old) }
         ensures cell { AloneWritten self.now.charset format.now.kind at.entry.column
             (at.entry.column + 1 == self.now.count) bytes.now (length to.old) to.new result }
     {

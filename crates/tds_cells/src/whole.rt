@@ -5,9 +5,8 @@ ghost use Rattle.tds_values.specs.Front.{value_bytes};
 ghost use Rattle.tds_values.specs.Scalar.{read_of};
 ghost use Rattle.tds_values.specs.declared.charset.Charset.{Charset};
 ghost use Rattle.tds_cells.specs.Cells.{LongShape, shape};
-ghost use Rattle.tds_cells.specs.ChunkedCells.{HasOneChunk, chunk_end, chunked_size, stated_total};
-ghost use Rattle.tds_cells.specs.LongFields.{LongWritten, long_size, some_written};
-ghost use Rattle.tds_cells.specs.ShortCells.{short_size};
+ghost use Rattle.tds_cells.specs.ChunkedCells.{HasOneChunk, chunk_end, stated_total};
+ghost use Rattle.tds_cells.specs.LongFields.{LongWritten, some_written};
 ghost use Rattle.tds_values.specs.declared.kind.Reach.{Reach};
 ghost use Rattle.tds_values.specs.Kind.{is_scalar};
 ghost use Rattle.tds_values.specs.declared.kind.Kind.{Kind};
@@ -43,10 +42,7 @@ pub(crate) const VALUE_ROOM: usize = 65;
 #[inline(always)]
 fn write_short(content: Content, bytes: &[u8], to: &mut [u8]) -> Option<Span>
     requires room { VALUE_ROOM ≤ length to.old }
-    ensures used { IfSome result (λ written. written.used ≤ length bytes.now) }
-    ensures most { IfSome result (λ written. written.made + 2 ≤ length to.old) }
-    ensures whole { IfSome result (λ written. written.used ≡ short_size bytes.now) }
-    ensures field { LongWritten (conversion_of content) Reach.Short bytes.now (length to.old + 1) to.new result }
+    ensures cell { LongWritten (conversion_of content) Reach.Short bytes.now (length to.old + 1) to.new result }
 {
     if bytes.len() < 2 {
         return None;
@@ -119,10 +115,7 @@ fn chunk_end(n: usize) -> usize
 #[inline(always)]
 fn write_one_chunk(content: Content, bytes: &[u8], to: &mut [u8]) -> Option<Span>
     requires room { VALUE_ROOM ≤ length to.old }
-    ensures used { IfSome result (λ written. written.used ≤ length bytes.now) }
-    ensures most { IfSome result (λ written. written.made + 2 ≤ length to.old) }
-    ensures whole { IfSome result (λ written. written.used ≡ chunked_size bytes.now) }
-    ensures field { LongWritten (conversion_of content) Reach.Chunked bytes.now (length to.old + 1) to.new result }
+    ensures cell { LongWritten (conversion_of content) Reach.Chunked bytes.now (length to.old + 1) to.new result }
 {
     if bytes.len() < CHUNK_START {
         return None;
@@ -165,10 +158,8 @@ fn some_written(written: Span) -> Option<Span>
 #[inline(never)]
 fn write_apart(content: Content, bytes: &[u8], to: &mut [u8]) -> Span
     requires room { VALUE_ROOM ≤ length to.old }
-    ensures used { IfSome (some_written result) (λ written. written.used ≤ length bytes.now) }
-    ensures most { IfSome (some_written result) (λ written. written.made + 2 ≤ length to.old) }
-    ensures whole { IfSome (some_written result) (λ written. written.used ≡ chunked_size bytes.now) }
-    ensures field { LongWritten (conversion_of content) Reach.Chunked bytes.now (length to.old + 1) to.new (some_written result) }
+    ensures cell { LongWritten (conversion_of content) Reach.Chunked bytes.now (length to.old + 1)
+        to.new (some_written result) }
 {
     match write_one_chunk(content, bytes, to) {
         Some(written) => written,
@@ -180,10 +171,7 @@ fn write_apart(content: Content, bytes: &[u8], to: &mut [u8]) -> Span
 #[inline(always)]
 fn write_chunked(content: Content, bytes: &[u8], to: &mut [u8]) -> Option<Span>
     requires room { VALUE_ROOM ≤ length to.old }
-    ensures used { IfSome result (λ written. written.used ≤ length bytes.now) }
-    ensures most { IfSome result (λ written. written.made + 2 ≤ length to.old) }
-    ensures whole { IfSome result (λ written. written.used ≡ chunked_size bytes.now) }
-    ensures field { LongWritten (conversion_of content) Reach.Chunked bytes.now (length to.old + 1) to.new result }
+    ensures cell { LongWritten (conversion_of content) Reach.Chunked bytes.now (length to.old + 1) to.new result }
 {
     some_written(write_apart(content, bytes, to))
 }
@@ -192,10 +180,7 @@ fn write_chunked(content: Content, bytes: &[u8], to: &mut [u8]) -> Option<Span>
 #[inline(always)]
 fn write_long(reach: Reach, content: Content, bytes: &[u8], to: &mut [u8]) -> Option<Span>
     requires room { VALUE_ROOM ≤ length to.old }
-    ensures used { IfSome result (λ written. written.used ≤ length bytes.now) }
-    ensures most { IfSome result (λ written. written.made + 2 ≤ length to.old) }
-    ensures whole { IfSome result (λ written. written.used ≡ long_size reach bytes.now) }
-    ensures field { (charset : Charset) (kind : Kind) → shape charset kind ≡ LongShape (conversion_of content) reach →
+    ensures cell { (charset : Charset) (kind : Kind) → shape charset kind ≡ LongShape (conversion_of content) reach →
         CellWritten charset kind bytes.now (length to.old + 1) to.new result }
 {
     match reach {
@@ -215,10 +200,7 @@ pub(crate) fn write_cell(
 ) -> Option<Span>
     requires laid { IsLaidOut charset format.now.kind format.now.layout }
     requires room { VALUE_ROOM ≤ length to.old }
-    ensures used { IfSome result (λ written. written.used ≤ length bytes.now) }
-    ensures most { IfSome result (λ written. written.made + 2 ≤ length to.old) }
-    ensures whole { IfSome result (λ written. written.used ≡ whole_size format.now.kind bytes.now) }
-    ensures field { CellWritten charset format.now.kind bytes.now (length to.old + 1) to.new result }
+    ensures cell { CellWritten charset format.now.kind bytes.now (length to.old + 1) to.new result }
 {
     if let Layout::Short(content) = format.layout {
         return write_short(content, bytes, to);
@@ -264,10 +246,7 @@ fn write_no_value(
     requires far { LOOKAHEAD ≤ length bytes.now }
     requires room { VALUE_ROOM ≤ length to.old }
     requires bad { is_ok (read_of format.now.kind (value_bytes format.now.kind bytes.now)) ≡ false }
-    ensures used { IfSome result (λ written. written.used ≤ length bytes.now) }
-    ensures most { IfSome result (λ written. written.made + 2 ≤ length to.old) }
-    ensures whole { IfSome result (λ written. written.used ≡ whole_size format.now.kind bytes.now) }
-    ensures field { CellWritten charset format.now.kind bytes.now (length to.old + 1) to.new result }
+    ensures cell { CellWritten charset format.now.kind bytes.now (length to.old + 1) to.new result }
 {
     let Layout::Counted = format.layout else {
         return None;
@@ -295,10 +274,7 @@ fn write_other(
     requires room { at + VALUE_ROOM ≤ length to.old }
     requires bad { is_ok (read_of format.now.kind (value_bytes format.now.kind (drop from bytes.now))) ≡ false }
     ensures kept { take at to.new ≡ take at to.old }
-    ensures used { IfSome result (λ written. from + written.used ≤ length bytes.now) }
-    ensures most { IfSome result (λ written. at + written.made + 2 ≤ length to.old) }
-    ensures whole { IfSome result (λ written. written.used ≡ whole_size format.now.kind (drop from bytes.now)) }
-    ensures field { CellWritten charset format.now.kind (drop from bytes.now) (length to.old - at + 1)
+    ensures cell { CellWritten charset format.now.kind (drop from bytes.now) (length to.old - at + 1)
         (drop at to.new) result }
 {
     match format.kind {
@@ -330,10 +306,7 @@ pub(crate) fn write_far_cell<const COPY: bool>(
     requires far { from + LOOKAHEAD ≤ length bytes.now }
     requires room { at + VALUE_ROOM ≤ length to.old }
     ensures kept { take at to.new ≡ take at to.old }
-    ensures used { IfSome result (λ written. from + written.used ≤ length bytes.now) }
-    ensures most { IfSome result (λ written. at + written.made + 2 ≤ length to.old) }
-    ensures whole { IfSome result (λ written. written.used ≡ whole_size format.now.kind (drop from bytes.now)) }
-    ensures field { CellWritten charset format.now.kind (drop from bytes.now) (length to.old - at + 1)
+    ensures cell { CellWritten charset format.now.kind (drop from bytes.now) (length to.old - at + 1)
         (drop at to.new) result }
 {
     let Some(front) = write_front::<COPY>(
@@ -399,8 +372,7 @@ pub(crate) fn write_int4_cell<const COUNTED: bool>(
     requires within { 5 ≤ length bytes.now }
     requires room { NUMBER_ROOM ≤ length to.old }
     ensures most { IfSome result (λ written. (written.used ≤ 5) × (written.made ≤ 11)) }
-    ensures whole { IfSome result (λ written. written.used ≡ whole_size format.now.kind bytes.now) }
-    ensures field { (charset : Charset) →
+    ensures cell { (charset : Charset) →
         CellWritten charset format.now.kind bytes.now (length to.old + 1) to.new result }
 {
     if !comes_counted::<COUNTED>(&format.kind) {

@@ -1,8 +1,9 @@
 // A run over cells by their formats, whose columns follow one another in a row.
-ghost use Rattle.std.specs.Prelude.{◌≡◌, ◌==◌, ◌&&◌, ◌<◌, ◌≤◌, ◌+◌, ◌-◌, drop, length, take, true, None, IfSome, MatchOption};
+ghost use Rattle.std.specs.Prelude.{◌≡◌, ◌==◌, ◌&&◌, ◌<◌, ◌≤◌, ◌+◌, ◌-◌, drop, length, take, true, MatchOption};
 ghost use Rattle.tds_values.specs.declared.charset.Charset.{Charset};
-ghost use Rattle.tds_cells.specs.FormatRuns.{AreNumbers, FirstLeft, IsLatest, IsRefusedAfter, NumbersWithin, RefusesRow, RunsFormats, WritesFields, run_since};
-ghost use Rattle.tds_cells.specs.Formats.{AreCounted, AreInt4, AreLaidOut};
+ghost use Rattle.tds_cells.specs.FormatRuns.{AreNumbers, FirstLeft, IsLatest, IsRefusedAfter, NumbersWithin, RefusesRow, RunsFormats, RunsRow, WritesFields};
+ghost use Rattle.tds_cells.specs.FormatRuns.{run_since};
+ghost use Rattle.tds_cells.specs.Formats.{AreLaidOut};
 ghost use Rattle.tds_cells.specs.Layouts.{IsLaidOut};
 ghost use Rattle.tds_cells.specs.Runs.{AloneWritten};
 
@@ -100,9 +101,7 @@ fn write_numbers<const COUNTED: bool>(
     bytes: &[u8],
     to: &mut [u8],
 ) -> FormatsRun
-    requires numbers { AreInt4 formats.now }
-    requires counted { COUNTED ≡ true → AreCounted formats.now }
-    requires within { NumbersWithin (length formats.now) (length bytes.now - from.used) (length to.old - from.made) }
+    requires numbers { AreNumbers COUNTED formats.now (length bytes.now - from.used) (length to.old - from.made) }
     ensures kept { take from.made to.new ≡ take from.made to.old }
     ensures begun { (from.used ≤ result.used) × (from.made ≤ result.made) }
     ensures ends { result.cells < length formats.now →
@@ -146,8 +145,6 @@ pub(crate) fn write_far_alone(
     requires far { from + LOOKAHEAD ≤ length bytes.now }
     requires room { at + CELL_ROOM ≤ length to.old }
     ensures kept { take at to.new ≡ take at to.old }
-    ensures used { IfSome result (λ written. from + written.used ≤ length bytes.now) }
-    ensures most { IfSome result (λ written. at + written.made ≤ length to.old) }
     ensures cell { AloneWritten charset format.now.kind column last (drop from bytes.now)
         (length to.old - at) (drop at to.new) result }
 {
@@ -205,17 +202,10 @@ pub(crate) fn run_row<const COUNTED: bool>(
     to: &mut [u8],
 ) -> Option<FormatsRun>
     requires some { 0 < length formats.now }
-    requires counted { COUNTED ≡ true → AreCounted formats.now }
-    requires numbers { AreNumbers formats.now (length bytes.now - from.used) (length to.old - from.made) }
+    requires numbers { AreNumbers COUNTED formats.now (length bytes.now - from.used) (length to.old - from.made) }
     ensures kept { take from.made to.new ≡ take from.made to.old }
-    ensures refused { result ≡ None → RefusesRow formats.now (drop from.used bytes.now) }
-    ensures row { (charset : Charset) → IfSome result (λ run.
-        RunsFormats charset formats.now 0 true (drop from.used bytes.now)
-        (length to.old - from.made) (drop from.made to.new) (run_since from run)) }
-    ensures whole { IfSome result (λ run. run.cells ≡ length formats.now) }
-    ensures left { IfSome result (λ run. run.used < length bytes.now) }
-    ensures begun { IfSome result (λ run. (from.used ≤ run.used) × (from.made ≤ run.made)) }
-    ensures most { IfSome result (λ run. run.made ≤ length to.old) }
+    ensures row { MatchOption result (RefusesRow formats.now (drop from.used bytes.now))
+        (λ run. RunsRow formats.now from bytes.now (length to.old) to.new run) }
 {
     let run = write_numbers::<COUNTED>(formats, from, bytes, to);
     if run.cells < formats.len() {

@@ -21,7 +21,7 @@ loop-used-preserved c =
             room = search arith;
             writes = λ columns knows ahead.
                 let ran = l.invariant.writes columns knows ahead in
-                let written = w.write_nulls-nulls.ensures.nulls c.args.self.now.charset columns (N.sym (w.count.ensures ∙ knows.counted)) in
+                let written = w.write_nulls-nulls.ensures.nulls.writes c.args.self.now.charset columns (N.sym (w.count.ensures ∙ knows.counted)) in
                 let more : N.RunsMarked c.args.self.now columns (N.bit c.args.bitmap.now) l.at c.pass.new.at [] (N.take nulls.made text) = record {
                   count = nulls.columns;
                   ahead = c.pass.ensures.ahead columns knows ran.ahead;
@@ -38,9 +38,9 @@ loop-used-preserved c =
           let cell = w.in-Some-next.ensures.cell in
           let clear = N.sym c.is_null.ensures ∙ w.if-is_null.false in
           let new_is = written_after l.made l.to new l.invariant.made (search arith) far.ensures.kept in
-          let within : made ≤ length (N.drop l.made new) = omega (arith, w.in-Some-next.ensures.most, far.auto.to, N.length-drop l.made new) in
+          let within : made ≤ length (N.drop l.made new) = omega (arith, cell.0.made, far.auto.to, N.length-drop l.made new) in
           rw (w.to-is, w.used-is, w.made-is) (record {
-            used = search arith;
+            used = omega (arith, cell.0.used, l.invariant.used, N.length-drop l.used c.args.bytes.now);
             made = search arith;
             room = search arith;
             writes = λ columns knows ahead.
@@ -48,7 +48,7 @@ loop-used-preserved c =
                 let further = c.pass.ensures.further ∙ N.ap (λ n. l.at.column + n) w.columns-is in
                 let taken = takes (c.in-Some.ensures.next columns knows ran.ahead) further (c.pass.ensures.ahead columns knows ran.ahead) in
                 let last = c.is_last-last.ensures ∙ last_one _ _ _ _ _ knows.counted taken.next in
-                let whole = rw last at (rw (N.sym (N.all_after c.args.bytes.now l.used)) at cell.writes.whole) in
+                let whole = rw last at (rw (N.sym (N.all_after c.args.bytes.now l.used)) at cell.1.whole) in
                 rw new_is (runs_more _ _ _ _ _ _ _ _ _ l.invariant.made within ran (runs_column taken N.refl (rw clear whole)));
           })
     ]

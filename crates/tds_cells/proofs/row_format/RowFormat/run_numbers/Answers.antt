@@ -16,14 +16,14 @@ loop-used-preserved g c =
     let row_format = c.args.self.now in
     let known = c.requires.known in
     let run = c.in-Some-run_row.run' in
-    let row = c.in-Some-run_row.ensures in
+    let row = c.in-Some-run_row.ensures.row in
     let whole : run.cells ≡ row_format.count = row.whole ∙ row_length row_format c.row-row.result.now known.0 c.row-row.ensures.row in
     record {
       same = search arith;
       ran = known_ran (λ walk. row_begun {start = place walk 0} known.1 (omega arith) (c.begins_row.ensures.begins (search N.rules), refl)
           (place_known row_format (place walk 0) row_format.count 0 known.0 (omega arith) (omega arith))
-          (row_far row_format c.row-row.result.now run c.run_row.new.to known.0 known.1 c.row-row.ensures.row whole row.kept (search (arith, N.rules)) row.begun
-          (row.row row_format.charset) (ran_at l.invariant.ran walk)));
+          (row_far row_format c.row-row.result.now run c.run_row.new.to known.0 known.1 c.row-row.ensures.row whole c.run_row.ensures.kept (search (arith, N.rules))
+          row.begun (row.row row_format.charset) (ran_at l.invariant.ran walk)));
     }
 
 pub returns-in_default-run_row-clause-rows : goal.returns-in_default-run_row-clause-rows
@@ -37,9 +37,9 @@ returns-then-not-begins_row-clause-rows g c =
     let row_format = c.args.self.now in
     let known = c.requires.known in
     let run = c.in-Some-run_row.run' in
-    let row = c.in-Some-run_row.ensures in
+    let row = c.in-Some-run_row.ensures.row in
     let all : length c.row-row.result.now ≡ row_format.count = row_length row_format c.row-row.result.now known.0 c.row-row.ensures.row in
     let whole : run.cells ≡ row_format.count = row.whole ∙ all in
     rw (c.ended.ensures, all) (known_ran (λ walk.
-    row_far row_format c.row-row.result.now run c.run_row.new.to known.0 known.1 c.row-row.ensures.row whole row.kept
+    row_far row_format c.row-row.result.now run c.run_row.new.to known.0 known.1 c.row-row.ensures.row whole c.run_row.ensures.kept
     (search (arith, N.rules)) row.begun (row.row row_format.charset) (ran_at l.invariant.ran walk)))

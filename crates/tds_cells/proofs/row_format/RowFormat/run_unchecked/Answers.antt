@@ -64,11 +64,11 @@ loop-rest-preserved-then-cells-formats-2 c =
     let format_is : format ≡ get_or formats l.cells format = search (arith, rules) in
     let size : length new ≡ length l.to = search (arith, rules) in
     let few : l.cells + 1 < row_format.count = omega (arith, c.if-cells-formats-2.true, row) in
-    let room : end < length new = omega (arith, c.in-Some.ensures.most) in
+    let room : end < length new = omega (arith, c.in-Some.ensures.cell.0.made) in
     let there : (end + 1) - comma_size (l.cells + 1) ≡ end = omega (arith, comma_one l.cells) in
     let same = take-set-le end new end 44 (omega arith) in
     let bytes = c.args.bytes.now in
-    let left = left_after bytes l.rest.now written.used l.invariant.within l.invariant.rest (omega (arith, c.in-Some.ensures.used)) in
+    let left = left_after bytes l.rest.now written.used l.invariant.within l.invariant.rest (omega (arith, c.in-Some.ensures.cell.0.used)) in
     record {
       within = omega (arith, left.0);
       rest = left.1 ∙ ap (λ (n : ℕ). drop n bytes) (sym left.0);
@@ -79,10 +79,10 @@ loop-rest-preserved-then-cells-formats-2 c =
           ∙ ap (λ t. take end (N.slice_set new end 44) ++ t) (after_some_column (l.cells + 1) (λ e. omega arith)));
       ran = rw there (known_ran (λ walk. rest_more l.rest.now l.cells written.used l.made written.made end _ format new (N.slice_set new end 44) false
           l.invariant.within l.invariant.rest left.0 all l.invariant.some c.row-formats.ensures.row (sym (N.ne_eqb _ _ (λ e. omega (arith, e, few)))) format_is
-          (l.invariant.begun, (omega (arith, room, size), omega (arith, c.in-Some.ensures.used)))
+          (l.invariant.begun, (omega (arith, room, size), omega (arith, c.in-Some.ensures.cell.0.used)))
           l.invariant.comma c.write_far_cell.ensures.kept
           (omega (arith, room), search (arith, rules)) (same ∙ sym (N.append-nil (take end new)))
-          c.in-Some.ensures.whole c.in-Some.ensures.field (ran_at l.invariant.ran walk)));
+          c.in-Some.ensures.cell.0.whole c.in-Some.ensures.cell.1 (ran_at l.invariant.ran walk)));
     }
 
 pub returns-then-not-row_follows-clause-rows : goal.returns-then-not-row_follows-clause-rows
@@ -101,15 +101,15 @@ returns-then-not-row_follows-clause-rows c =
     let last : l.cells + 1 ≡ row_format.count = omega (arith, c.if-cells-formats-2.false, row, l.invariant.some) in
     let fits : end.result ≤ length end.new.to = search (arith, rules) in
     let bytes = c.args.bytes.now in
-    let left = left_after bytes l.rest.now written.used l.invariant.within l.invariant.rest (omega (arith, c.in-Some.ensures.used)) in
+    let left = left_after bytes l.rest.now written.used l.invariant.within l.invariant.rest (omega (arith, c.in-Some.ensures.cell.0.used)) in
     let at = l.made + written.made in
     let before : (at + 1) - 1 ≡ at = omega arith in
     let text = rw before at end.ensures.text ∙ ap (λ (t : List ℕ). t ++ end_after true) (take-set-le at new at 44 (omega arith)) in
     rw c.ended.ensures (known_ran (λ walk. rest_more l.rest.now l.cells written.used l.made written.made end.result _ format new end.new.to true
     l.invariant.within l.invariant.rest left.0 all l.invariant.some c.row-formats.ensures.row (sym (N.eq-eqb _ _ last)) format_is
-    (l.invariant.begun, (omega (arith, c.in-Some.ensures.most, size), omega (arith, c.in-Some.ensures.used)))
-    l.invariant.comma c.write_far_cell.ensures.kept (omega (arith, c.in-Some.ensures.most), fits) text
-    c.in-Some.ensures.whole c.in-Some.ensures.field (ran_at l.invariant.ran walk)))
+    (l.invariant.begun, (omega (arith, c.in-Some.ensures.cell.0.made, size), omega (arith, c.in-Some.ensures.cell.0.used)))
+    l.invariant.comma c.write_far_cell.ensures.kept (omega (arith, c.in-Some.ensures.cell.0.made), fits) text
+    c.in-Some.ensures.cell.0.whole c.in-Some.ensures.cell.1 (ran_at l.invariant.ran walk)))
 
 pub loop-rest-preserved : goal.loop-rest-preserved
 loop-rest-preserved c =
@@ -127,7 +127,7 @@ loop-rest-preserved c =
     let last : l.cells + 1 ≡ row_format.count = omega (arith, c.if-cells-formats-2.false, row, l.invariant.some) in
     let fits : end.result ≤ length end.new.to = search (arith, rules) in
     let bytes = c.args.bytes.now in
-    let left = left_after bytes l.rest.now written.used l.invariant.within l.invariant.rest (omega (arith, c.in-Some.ensures.used)) in
+    let left = left_after bytes l.rest.now written.used l.invariant.within l.invariant.rest (omega (arith, c.in-Some.ensures.cell.0.used)) in
     let at = l.made + written.made in
     let before : (at + 1) - 1 ≡ at = omega arith in
     let text = rw before at end.ensures.text ∙ ap (λ (t : List ℕ). t ++ end_after true) (take-set-le at new at 44 (omega arith)) in
@@ -147,9 +147,9 @@ loop-rest-preserved c =
           (place_known row_format (place walk 0) (l.cells + 1) 0 all (omega (arith, last)) (omega arith))
           (rest_more l.rest.now l.cells written.used l.made written.made end.result _ format new end.new.to true
           l.invariant.within l.invariant.rest refl all l.invariant.some c.row-formats.ensures.row (sym (N.eq-eqb _ _ last)) format_is
-          (l.invariant.begun, (omega (arith, c.in-Some.ensures.most, size), omega (arith, c.in-Some.ensures.used)))
-          l.invariant.comma c.write_far_cell.ensures.kept (omega (arith, c.in-Some.ensures.most), fits) text
-          c.in-Some.ensures.whole c.in-Some.ensures.field (ran_at l.invariant.ran walk))));
+          (l.invariant.begun, (omega (arith, c.in-Some.ensures.cell.0.made, size), omega (arith, c.in-Some.ensures.cell.0.used)))
+          l.invariant.comma c.write_far_cell.ensures.kept (omega (arith, c.in-Some.ensures.cell.0.made), fits) text
+          c.in-Some.ensures.cell.0.whole c.in-Some.ensures.cell.1 (ran_at l.invariant.ran walk))));
     }
 
 pub returns-clause-rows : goal.returns-clause-rows
@@ -180,6 +180,6 @@ returns-clause-ends c =
           let less : length c.args.to.now - (l.made - comma_size l.cells) ≤ length l.to - l.made + 1 =
           omega (arith, l.invariant.size, l.invariant.begun, comma_most l.cells, w.if-made-most.true) in
           first_left row_format (place walk l.cells) row_format.count (drop l.cells formats) (omega arith) rest.0
-          (far_left row_format formats l.cells format _ _ _ format_is less (rw l.invariant.rest at w.in_default.ensures.field))
+          (far_left row_format formats l.cells format _ _ _ format_is less (rw l.invariant.rest at w.in_default.ensures.cell))
           columns column left knows ahead step))
     ])

@@ -14,11 +14,6 @@ write_line_end-made-requires g c =
     let x = run.ensures.fields Windows1252 in
     omega (arith, x.room (omega (arith, c.if-run-formats.false, c.requires.some)), run.auto.to, length-drop c.args.from.made run.new.to)
 
-pub returns-clause-whole : goal.returns-clause-whole
-returns-clause-whole g c =
-    let x = c.write_numbers-run.ensures.fields Windows1252 in
-    omega (arith, x.within.cells, c.if-run-formats.false)
-
 pub returns-clause-kept : goal.returns-clause-kept
 returns-clause-kept g c =
     let run = c.write_numbers-run in
@@ -27,37 +22,27 @@ returns-clause-kept g c =
     (run.ensures.fields Windows1252) run.ensures.begun.1 end.ensures.most end.auto.to end.ensures.text in
     x.1.0 ∙ run.ensures.kept
 
-pub returns-clause-begun : goal.returns-clause-begun
-returns-clause-begun g c =
-    let run = c.write_numbers-run in
-    let end = c.write_line_end-made in
-    let x = ended_run c.args.from.made end.result run.result.made run.new.to end.new.to _ (omega (arith, c.if-run-formats.false, c.requires.some))
-    (run.ensures.fields Windows1252) run.ensures.begun.1 end.ensures.most end.auto.to end.ensures.text in
-    (run.ensures.begun.0, x.0.0)
-
-pub returns-clause-most : goal.returns-clause-most
-returns-clause-most g c =
-    let run = c.write_numbers-run in
-    let end = c.write_line_end-made in
-    let x = ended_run c.args.from.made end.result run.result.made run.new.to end.new.to _ (omega (arith, c.if-run-formats.false, c.requires.some))
-    (run.ensures.fields Windows1252) run.ensures.begun.1 end.ensures.most end.auto.to end.ensures.text in
-    omega (arith, x.0.1, end.auto.to, run.auto.to)
-
 pub returns-clause-row : goal.returns-clause-row
-returns-clause-row g c = λ charset.
+returns-clause-row g c =
     let at = c.args.from.made in
     let run = c.write_numbers-run in
     let end = c.write_line_end-made in
-    let wrote = run.ensures.fields charset in
-    let all : run.result.cells ≡ length c.args.formats.now = omega (arith, wrote.within.cells, c.if-run-formats.false) in
+    let wrote = run.ensures.fields in
+    let all : run.result.cells ≡ length c.args.formats.now = omega (arith, (wrote Windows1252).within.cells, c.if-run-formats.false) in
     let some : 0 < run.result.cells = omega (arith, all, c.requires.some) in
-    let x = ended_run at end.result run.result.made run.new.to end.new.to _ some wrote run.ensures.begun.1 end.ensures.most end.auto.to
+    let x = ended_run at end.result run.result.made run.new.to end.new.to _ some (wrote Windows1252) run.ensures.begun.1 end.ensures.most end.auto.to
     end.ensures.text in
-    fields_run _ _ _ some wrote (omega (arith, x.0, end.auto.to, run.auto.to)) (x.1.1
-    ∙ ap (λ v. take ((run.result.made - at) - 1) (drop at run.new.to) ++ end_after v) (sym (eq-eqb _ _ all)))
+    record {
+      whole = all;
+      left = run.ensures.left;
+      begun = (run.ensures.begun.0, x.0.0);
+      most = omega (arith, x.0.1, end.auto.to, run.auto.to);
+      row = λ charset. fields_run _ _ _ some (wrote charset) (omega (arith, x.0, end.auto.to, run.auto.to)) (x.1.1
+          ∙ ap (λ v. take ((run.result.made - at) - 1) (drop at run.new.to) ++ end_after v) (sym (eq-eqb _ _ all)));
+    }
 
-pub returns-then-run-formats-clause-refused : goal.returns-then-run-formats-clause-refused
-returns-then-run-formats-clause-refused g c = λ _.
+pub returns-then-run-formats-clause-row : goal.returns-then-run-formats-clause-row
+returns-then-run-formats-clause-row g c =
     let run = c.write_numbers-run in
     record {
       run = run_since c.args.from run.result;

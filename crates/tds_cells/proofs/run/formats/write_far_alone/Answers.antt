@@ -37,7 +37,7 @@ returns-clause-cell c =
     let x = line_beyond c.args.at comma.result _ end.result c.args.to.now comma.new.to _ cell.new.to end.new.to _ (search (arith, rules))
     cell.ensures.kept end.ensures.text in
     let line = x.1.1 ∙ ap (λ l. l ++ end_after c.args.last) (comma.ensures.text _) in
-    record { size = c.in_ok-written.ensures.whole; writes = rw line (c.in_ok-written.ensures.field c.args.column c.args.last) }
+    (grind arith, rw line (c.in_ok-written.ensures.cell.1 c.args.column c.args.last))
 
 pub returns-in_err-written-clause-cell : goal.returns-in_err-written-clause-cell
 returns-in_err-written-clause-cell c = grind (arith, left_less)

@@ -15,8 +15,8 @@ loop-cells-preserved c =
     let rest = l.rest.now in
     let format_is : format ≡ get_or formats l.cells format = search (arith, rules) in
     let now = all_after bytes (length bytes - length rest) ∙ sym l.invariant.rest in
-    let whole = rw format_is at (rw (sym now) at c.in-Some.ensures.whole) in
-    let wrote = rw format_is at (rw (sym now) at c.in-Some.ensures.field) in
+    let whole = rw format_is at (rw (sym now) at c.in-Some.ensures.cell.0.whole) in
+    let wrote = rw format_is at (rw (sym now) at c.in-Some.ensures.cell.1) in
     let left = left_after bytes rest written.used l.invariant.within l.invariant.rest (search (arith, rules)) in
     record {
       within = omega (arith, left.0);
@@ -36,7 +36,7 @@ returns-clause-ends c = λ none format rest is. elim c.loop-cells-test.branch [
       let begun = l.invariant.at.begun none in
       let all : l.rest.now ≡ bytes = l.invariant.rest ∙ ap (λ (n : ℕ). drop n bytes) begun.0 in
       let first : w.index-formats-cells.result ≡ format = grind arith in
-      inr (left_less c.args.charset format.kind bytes (grind arith) (rw first at (rw all at w.in_default.ensures.field))))
+      inr (left_less c.args.charset format.kind bytes (grind arith) (rw first at (rw all at w.in_default.ensures.cell))))
 ]
 
 pub returns-clause-left : goal.returns-clause-left
@@ -49,5 +49,5 @@ returns-clause-left c = λ format rest is. elim c.loop-cells-test.branch [
       let here : taken ≡ get_or formats l.cells taken = search (arith, rules) in
       let place : l.cells ≡ l.cells + 0 = omega arith in
       let first = here ∙ ap (λ (n : ℕ). get_or formats n taken) place ∙ sym (get_or-drop l.cells formats 0 taken) ∙ ap (λ f. get_or f 0 taken) is in
-      inr (left_less c.args.charset format.kind _ (search (arith, rules)) (rw first at (rw l.invariant.rest at w.in_default.ensures.field))))
+      inr (left_less c.args.charset format.kind _ (search (arith, rules)) (rw first at (rw l.invariant.rest at w.in_default.ensures.cell))))
 ]

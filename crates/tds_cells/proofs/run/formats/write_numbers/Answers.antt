@@ -18,8 +18,8 @@ loop-cells-init g c =
       size = refl;
       kept = refl;
       at = search (arith, rules);
-      whole = omega (arith, c.requires.within.whole);
-      fits = omega (arith, c.requires.within.fits);
+      whole = omega (arith, c.requires.numbers.within.whole);
+      fits = omega (arith, c.requires.numbers.within.fits);
       writes = λ charset. rw (used, made) ([], (refl, refl), refl);
     }
 
@@ -35,7 +35,7 @@ loop-cells-preserved g c =
     let bytes = drop from c.args.bytes.now in
     let left = c.loop-cells-test.true in
     let rest = unused_from from l.used c.args.bytes.now l.invariant.from in
-    let whole = rw format_is at (rw rest at c.in-Some.ensures.whole) in
+    let whole = rw format_is at (rw rest at (c.in-Some.ensures.cell Windows1252).0.whole) in
     let further : (l.used + written.used) - from ≡ (l.used - from) + written.used = omega (arith, l.invariant.from) in
     let more : (l.made + written.made + 1) - at ≡ (l.made - at) + written.made + 1 = omega (arith, l.invariant.begun) in
     let new = c.write_int4_cell.new.to in
@@ -54,7 +54,7 @@ loop-cells-preserved g c =
       fits = room_step _ _ _ _ _ _ (search (arith, rules)) left c.in-Some.ensures.most.1 l.invariant.fits;
       writes = λ charset. rw (more, set_beyond at l.made written.made l.to _ l.invariant.begun within) (fields_more charset formats 0 bytes (drop at l.to) new _
           l.cells _ written.used _ _ written.made format further (rw (sym (length-drop at l.to)) at l.invariant.at.fits)
-          (omega (arith, c.in-Some.ensures.most.1, size, l.invariant.fits, left)) left (rw format_is at (rw rest at (c.in-Some.ensures.field charset)))
+          (omega (arith, c.in-Some.ensures.most.1, size, l.invariant.fits, left)) left (rw format_is at (rw rest at (c.in-Some.ensures.cell charset).1))
           (l.invariant.writes charset));
     }
 
@@ -67,12 +67,12 @@ returns-in_default-clause-ends g c = λ few format.
     let d = c.index-formats-cells.result in
     let is : d ≡ get_or formats l.cells d = search (arith, rules) in
     let there = is ∙ get_or_default formats l.cells d format c.loop-cells-test.true in
-    let number = int4_scalar _ (c.requires.numbers l.cells format c.loop-cells-test.true) in
+    let number = int4_scalar _ (c.requires.numbers.numbers l.cells format c.loop-cells-test.true) in
     let split : from + (l.used - from) ≡ l.used = omega (arith, l.invariant.from) in
     let same : drop (l.used - from) (drop from bytes) ≡ drop l.used bytes = drop-drop (l.used - from) from bytes ∙ ap (λ (n : ℕ). drop n bytes) split in
     rw same (scalar_left Windows1252 (get_or formats l.cells format).kind (drop l.used bytes) (length (take (length l.to - l.made)
     (drop l.made l.to)) + 1) number
-    (rw (all_after bytes l.used) at (rw there at (c.in_default.ensures.field Windows1252))))
+    (rw (all_after bytes l.used) at (rw there at (c.in_default.ensures.cell Windows1252))))
 
 pub returns-in_default-clause-fields : goal.returns-in_default-clause-fields
 returns-in_default-clause-fields g c = λ charset.

@@ -41,6 +41,6 @@ returns g c = record {
       let all =
       take_all c.in-Some.cell.used bytes (omega (arith, scalar_whole kind bytes c.requires.scalar)) in
       let reads = cell_reads _ last bytes
-      (rw all at (alone.writes.at_once c.requires.scalar charset)) x.takes x.between x.place_is in
+      (rw all at (alone.1.at_once c.requires.scalar charset)) x.takes x.between x.place_is in
       cell_put charset kind c.requires.next.in_row.sink reads c.put.ensures;
 }

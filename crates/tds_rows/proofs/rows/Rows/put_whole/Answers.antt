@@ -17,5 +17,5 @@ returns-clause-cell g c =
           let end = last_one _ _ _ _ _ next.knows.counted next.next ∙ sym next.last in
           let alone = rw (end, c.buffered.ensures) at c.in_ok-cell.ensures.cell in
           put_whole _ _ _ _ _ c.requires.in_row.sink
-          (c.consume.ensures.between c.requires.in_row.payload.going) alone.writes.whole c.consume.ensures.gives at c.put.ensures;
+          (c.consume.ensures.between c.requires.in_row.payload.going) alone.1.whole c.consume.ensures.gives at c.put.ensures;
     }
