@@ -1,5 +1,5 @@
 -- Bytes that are looked at 16 at a time.
-use Rattle.std.specs.Prelude.{◌≡◌, ℕ, ◌≤◌, ◌==◌, ◌&&◌, ⊤, Bool, true, not, nat_lt, if◌then◌else◌, List, [], ◌∷◌, length, take}
+use Rattle.std.specs.Prelude.{◌≡◌, ℕ, ◌+◌, ◌≤◌, ◌==◌, ◌&&◌, ⊤, Bool, true, not, nat_lt, if◌then◌else◌, List, [], ◌∷◌, length, take}
 use Rattle.tds_text.specs.Quoting.{quote}
 use lib.Count.{count_trailing_zeros}
 
@@ -34,3 +34,9 @@ evens (low ∷ high ∷ bytes) = low ∷ evens bytes
 pub record LiesIn (bytes source : List ℕ) : Type 0 where
   pub within : length bytes ≤ length source
   pub front : take (length bytes) source ≡ bytes
+
+-- The place is in the bytes or at their end, and they lie at the front of a source that has so many bytes from the place on.
+pub record LiesAhead (bytes source : List ℕ) (at n : ℕ) : Type 0 where
+  pub from : at ≤ length bytes
+  pub lies : LiesIn bytes source
+  pub there : at + n ≤ length source

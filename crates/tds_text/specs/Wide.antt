@@ -1,5 +1,5 @@
 -- Characters in UTF-16 that are one unit, by the bytes that they have in UTF-8 (RFC 3629, section 3).
-use Rattle.std.specs.Prelude.{◌≡◌, ℕ, ◌+◌, ◌*◌, ◌/◌, ◌%◌, ◌<◌, ◌≤◌, ◌==◌, ◌||◌, Bool, not, nat_lt, if◌then◌else◌, List, [], ◌∷◌, ◌++◌, flat_map, length}
+use Rattle.std.specs.Prelude.{◌≡◌, ℕ, ◌+◌, ◌*◌, ◌/◌, ◌%◌, ◌<◌, ◌≤◌, ◌==◌, ◌||◌, Bool, false, not, nat_lt, if◌then◌else◌, List, [], ◌∷◌, ◌++◌, flat_map, length}
 use Rattle.std.specs.Prelude.{map, take}
 use lib.Lanes.{Each1, mask_l}
 use Rattle.std.specs.Char.{encode_utf8}
@@ -61,6 +61,12 @@ pub record AddsQuads (old new : List ℕ) (from to n : ℕ) (quads : List ℕ) (
   pub adds : (units more : List ℕ) → length units ≡ n → quads ≡ flat_map quad_bytes units ++ more → wide ≡ mask_l (map is_wide units)
       → long ≡ mask_l (map is_long units) → Each1 (λ u. u < 65536) units
       → (take to new ≡ take from old ++ units_text units) × (to ≤ from + 3 * n)
+
+-- The text of the first units, so many, was added to what was before a place, at most three bytes for each; none of them is half of a character.
+pub record AddsUnits (old new : List ℕ) (from to n : ℕ) (units : List ℕ) : Type 0 where
+  pub most : to ≤ from + 3 * n
+  pub written : take to new ≡ take from old ++ units_text (take n units)
+  pub single : Each1 (λ u. is_half u ≡ false) (take n units)
 
 -- the bytes of long characters
 abbrev pub triples : List ℕ → List ℕ

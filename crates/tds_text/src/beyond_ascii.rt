@@ -1,9 +1,9 @@
 // Characters in UTF-16 that are one unit, eight at a time.
-ghost use Rattle.std.specs.Prelude.{◌≡◌, ◌+◌, ◌-◌, ◌*◌, ◌<◌, ◌≤◌, ◌++◌, length, take, drop, map, get_or, flat_map, replicate, false, true, IfSome, IfNone};
+ghost use Rattle.std.specs.Prelude.{◌≡◌, ◌+◌, ◌-◌, ◌*◌, ◌<◌, ◌≤◌, ◌++◌, length, take, drop, map, get_or, flat_map, replicate, false, true, MatchOption};
 ghost use Rattle.std.specs.Simd.Lanes.{Each1};
 ghost use lib.Lanes.{mask_l};
 ghost use Rattle.tds_text.specs.Utf16 as utf16;
-ghost use Rattle.tds_text.specs.Wide.{AddsQuads, is_half, is_long, is_wide, pair_bytes, quad_bytes, triples, units_text};
+ghost use Rattle.tds_text.specs.Wide.{AddsQuads, AddsUnits, is_long, is_wide, pair_bytes, quad_bytes, triples, units_text};
 
 use crate::encode::put_lanes;
 use crate::lanes::LANES;
@@ -157,10 +157,7 @@ fn put_longs(to: &mut [u8], at: usize, units: u16x8, n: usize) -> Option<usize>
     requires most { n ≤ UNITS }
     requires zeros { drop n units ≡ replicate (UNITS - n) 0 }
     requires room { at + 3 * n + LANES ≤ length to.old }
-    ensures most { IfSome result (λ end. end ≤ at + 3 * n) }
-    ensures written { IfSome result (λ end. take end to.new ≡ take at to.old ++ units_text (take n units)) }
-    ensures single { IfSome result (λ _. Each1 (λ u. is_half u ≡ false) (take n units)) }
-    ensures none { IfNone result (to.new ≡ to.old) }
+    ensures { MatchOption result (to.new ≡ to.old) (λ end. AddsUnits to.old to.new at end n units) }
 {
     if lowest(other_units(units), n) == 0 {
         put_triples(to, at, units, n);
@@ -177,11 +174,7 @@ fn put_longs(to: &mut [u8], at: usize, units: u16x8, n: usize) -> Option<usize>
 pub(crate) fn put_units(to: &mut [u8], at: usize, lanes: u8x16, n: usize) -> Option<usize>
     requires most { n ≤ UNITS }
     requires room { at + 3 * n + LANES ≤ length to.old }
-    ensures most { IfSome result (λ end. end ≤ at + 3 * n) }
-    ensures written { IfSome result (λ end. take end to.new ≡ take at to.old
-        ++ units_text (take n (utf16.units lanes))) }
-    ensures single { IfSome result (λ _. Each1 (λ u. is_half u ≡ false) (take n (utf16.units lanes))) }
-    ensures none { IfNone result (to.new ≡ to.old) }
+    ensures { MatchOption result (to.new ≡ to.old) (λ end. AddsUnits to.old to.new at end n (utf16.units lanes)) }
 {
     let units = first_units(units_of(lanes), n);
     if has_long(units) {

@@ -3,7 +3,7 @@
 ghost use Rattle.std.specs.Prelude.{◌≡◌, ◌+◌, ◌<◌, ◌≤◌, [], ◌∷◌, ◌++◌, length, take, drop};
 ghost use Rattle.std.specs.Char.{encode_utf8};
 ghost use Rattle.std.specs.Simd.Lanes.{chunk};
-ghost use Rattle.tds_text.specs.Plain.{ArePlain, LiesIn, first_set};
+ghost use Rattle.tds_text.specs.Plain.{ArePlain, LiesAhead, first_set};
 ghost use Rattle.tds_text.specs.Quoting.{doubled};
 
 use crate::lanes::{LANES, WIDE, first_set, plain_run};
@@ -102,9 +102,7 @@ pub(crate) fn take_plain(
     to: &mut [u8],
     made: usize,
 ) -> usize
-    requires from { at ≤ length bytes.now }
-    requires source { LiesIn bytes.now source.now }
-    requires there { at + LANES ≤ length source.now }
+    requires ahead { LiesAhead bytes.now source.now at LANES }
     requires room { made + LANES ≤ length to.old }
     ensures most { result ≤ LANES }
     ensures within { at + result ≤ length bytes.now }

@@ -2,9 +2,9 @@
 ghost use Rattle.std.specs.Prelude.{◌≡◌, ◌+◌, ◌*◌, ◌<◌, ◌≤◌, ◌++◌, length, take, drop, IsUtf8, IfSome};
 ghost use Rattle.std.specs.Int.{is_in_range};
 ghost use Rattle.tds_text.specs.Joined.{is_lead};
-ghost use Rattle.tds_text.specs.Plain.{LiesIn};
+ghost use Rattle.tds_text.specs.Plain.{LiesAhead, LiesIn};
 ghost use Rattle.tds_text.specs.Quoting.{doubled};
-ghost use Rattle.tds_text.specs.Utf8Scan.{Converts};
+ghost use Rattle.tds_text.specs.Utf8Scan.{AreUnquoted, Converts};
 
 use crate::encode::{put_doubled, put_lanes, take_plain};
 use crate::lanes::{LANES, joined_run};
@@ -24,11 +24,9 @@ fn goes_on(byte: u8) -> bool
 #[inline(always)]
 fn character_of_few(bytes: &[u8], at: usize) -> usize
     requires { at < length bytes.now }
-    ensures within { at + result ≤ length bytes.now }
     ensures some { 0 < result → 2 ≤ result }
     ensures most { result ≤ 3 }
-    ensures whole { IsUtf8 (take result (drop at bytes.now)) }
-    ensures unquoted { doubled (take result (drop at bytes.now)) ≡ take result (drop at bytes.now) }
+    ensures next { AreUnquoted bytes.now at result }
 {
     let first = bytes[at];
     let left = bytes.len() - at;
@@ -73,13 +71,9 @@ fn begins_two(byte: u8) -> bool
 // How many of the next 16 bytes are whole characters of one or two bytes, and no quotes.
 #[inline(always)]
 fn joined_characters(bytes: &[u8], source: &[u8], at: usize) -> usize
-    requires from { at ≤ length bytes.now }
-    requires source { LiesIn bytes.now source.now }
-    requires there { at + LANES < length source.now }
+    requires { LiesAhead bytes.now source.now at (LANES + 1) }
     ensures most { result ≤ LANES }
-    ensures within { at + result ≤ length bytes.now }
-    ensures whole { IsUtf8 (take result (drop at bytes.now)) }
-    ensures unquoted { doubled (take result (drop at bytes.now)) ≡ take result (drop at bytes.now) }
+    ensures next { AreUnquoted bytes.now at result }
 {
     let n = joined_run(source, at).min(bytes.len() - at);
     if n == 0 || goes_on(source[at]) {
@@ -96,12 +90,9 @@ fn joined_characters(bytes: &[u8], source: &[u8], at: usize) -> usize
 #[inline(always)]
 fn take_beyond(bytes: &[u8], source: &[u8], at: usize, to: &mut [u8], made: usize) -> usize
     requires from { at < length bytes.now }
-    requires source { LiesIn bytes.now source.now }
-    requires there { at + LANES < length source.now }
+    requires ahead { LiesAhead bytes.now source.now at (LANES + 1) }
     requires room { made + LANES ≤ length to.old }
-    ensures within { at + result ≤ length bytes.now }
-    ensures whole { IsUtf8 (take result (drop at bytes.now)) }
-    ensures unquoted { doubled (take result (drop at bytes.now)) ≡ take result (drop at bytes.now) }
+    ensures next { AreUnquoted bytes.now at result }
     ensures taken { take (made + result) to.new ≡ take made to.old ++ take result (drop at bytes.now) }
 {
     if bytes[at] < 0xE0 {
@@ -126,9 +117,7 @@ fn convert_beyond(
     to: &mut [u8],
     start: usize,
 ) -> Span
-    requires source { LiesIn bytes.now source.now }
-    requires within { end ≤ length bytes.now }
-    requires there { 0 < end → end + LANES ≤ length source.now }
+    requires ahead { 0 < end → LiesAhead bytes.now source.now end LANES }
     requires room { 2 * length bytes.now + LANES ≤ length to.old }
     requires before { Converts bytes.now to.old from start }
     ensures more { from ≤ result.used }

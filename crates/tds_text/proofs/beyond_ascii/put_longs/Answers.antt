@@ -8,9 +8,13 @@ pub put_triples-requires-clause-long : goal.put_triples-requires-clause-long
 put_triples-requires-clause-long c = N.Each1-weaker _ _ (λ u h. (no_other u h).0) _
     (none_of_first N.is_other c.args.units c.args.n c.other_units.ensures c.lowest.ensures c.if-lowest-eq0.true)
 
-pub returns-then-lowest-eq0-clause-single : goal.returns-then-lowest-eq0-clause-single
-returns-then-lowest-eq0-clause-single c = N.Each1-weaker _ _ (λ u h. (no_other u h).1) _
-    (none_of_first N.is_other c.args.units c.args.n c.other_units.ensures c.lowest.ensures c.if-lowest-eq0.true)
+pub returns-then-lowest-eq0 : goal.returns-then-lowest-eq0
+returns-then-lowest-eq0 c = record {
+  most = omega N.arith;
+  written = c.put_triples.ensures;
+  single = N.Each1-weaker _ _ (λ u h. (no_other u h).1) _
+      (none_of_first N.is_other c.args.units c.args.n c.other_units.ensures c.lowest.ensures c.if-lowest-eq0.true);
+}
 
 pub put_mixed-requires-clause-wide : goal.put_mixed-requires-clause-wide
 put_mixed-requires-clause-wide c = zeros_after N.is_wide c.args.n c.args.units _ c.wide_units.ensures c.requires.zeros N.refl
@@ -18,6 +22,10 @@ put_mixed-requires-clause-wide c = zeros_after N.is_wide c.args.n c.args.units _
 pub put_mixed-requires-clause-long : goal.put_mixed-requires-clause-long
 put_mixed-requires-clause-long c = zeros_after N.is_long c.args.n c.args.units _ c.long_units.ensures c.requires.zeros N.refl
 
-pub returns-clause-single : goal.returns-clause-single
-returns-clause-single c = each_taken _ c.args.n c.args.units
-    (none_passes N.is_half c.args.units (N.sym c.surrogate_units.ensures ∙ c.if-surrogate_units-ne0.false))
+pub returns : goal.returns
+returns c = record {
+  most = c.put_mixed.ensures.most;
+  written = c.put_mixed.ensures.written;
+  single = each_taken _ c.args.n c.args.units
+      (none_passes N.is_half c.args.units (N.sym c.surrogate_units.ensures ∙ c.if-surrogate_units-ne0.false));
+}

@@ -11,7 +11,7 @@ returns-clause-taken = grind (arith, N.common_steps, alike)
 
 pub put_lanes-requires : goal.put_lanes-requires
 put_lanes-requires c =
-    let room = c.requires.there in (
+    let room = c.requires.ahead.there in (
       omega arith,
       (N.length-chunk c.args.at 16 c.args.source.now room, ((omega (arith, run_most N.is_plain c.args.source.now c.args.at 16 room)), (omega arith))),
     )

@@ -7,5 +7,5 @@ loop-at-preserved c = record {
   from = omega N.arith;
   long = search N.rules;
   converts = added c.args.bytes.now c.loop-at.at c.loop-at.made c.loop-at.invariant.converts _ c.take_beyond-n.result
-      N.refl c.take_beyond-n.ensures.within c.take_beyond-n.ensures.taken c.take_beyond-n.ensures.whole c.take_beyond-n.ensures.unquoted;
+      N.refl c.take_beyond-n.ensures.next.within c.take_beyond-n.ensures.taken c.take_beyond-n.ensures.next.whole c.take_beyond-n.ensures.next.unquoted;
 }
