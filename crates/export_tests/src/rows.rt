@@ -118,14 +118,12 @@ fn in_packets(alloc: Global, payload: &[u8], size: usize) -> Result<Vec<u8>, All
 
 // Reads a description, and says whether it is one of columns.
 fn describe<R: Read>(payload: &mut Payload<R>, area: &mut Area) -> bool
-    requires sound { IsSound payload.old }
-    requires going { payload.old.stopped ≡ None }
+    requires going { IsGoing payload.old }
     requires room { 2 ≤ area.old.room }
     requires empty { area.old.bytes ≡ [] }
     ensures sound { IsSound payload.new }
     ensures same { IsOnSame payload.old payload.new }
-    ensures going { result ≡ true → payload.new.stopped ≡ None }
-    ensures whole { result ≡ true → IsDescription area.new.bytes }
+    ensures whole { result ≡ true → (payload.new.stopped ≡ None) × IsDescription area.new.bytes }
 {
     match gather(payload, area) {
         Ok(Described::Columns(_)) => true,
@@ -163,12 +161,10 @@ fn read_token<R: Read, W: Write>(
 ) -> Result<u64, Stop>
     requires going { IsGoing payload.old }
     requires writing { IsWriting sink.old }
-    requires bits { 8192 ≤ rooms.old.bitmap.room }
-    requires small { SMALL_ROOM ≤ rooms.old.small.room }
+    requires rooms { (8192 ≤ rooms.old.bitmap.room) × (SMALL_ROOM ≤ rooms.old.small.room) }
     ensures payload { LeavesPayload payload.old payload.new result }
     ensures sink { LeavesSink sink.old sink.new result }
-    ensures bits { rooms.new.bitmap.room ≡ rooms.old.bitmap.room }
-    ensures small { rooms.new.small.room ≡ rooms.old.small.room }
+    ensures rooms { (rooms.new.bitmap.room ≡ rooms.old.bitmap.room) × (rooms.new.small.room ≡ rooms.old.small.room) }
 {
     let charset = Charset::Windows1252;
     let Rooms { bitmap, small } = rooms;
