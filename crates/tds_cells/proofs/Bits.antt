@@ -1,4 +1,6 @@
 -- The bits of a bitmap that lie in one byte.
+use Rattle.tds_cells.proofs as N
+use N.{◌≡◌, ◌==◌, ◌+◌, ◌-◌, ◌*◌, ◌/◌, ◌%◌, ◌^◌, ◌<◌, ◌≤◌, ℕ, arith, bit}
 use Rattle.std.specs.Int.{bit_at, trailing_ones, trailing_zeros}
 use Rattle.std.specs.Prelude.{slice_index}
 use Rattle.std.proofs.Common.{w8, w32}
@@ -6,9 +8,8 @@ use Rattle.std.proofs.Math.Nat.{div-div-eq-div-mul}
 use Rattle.std.proofs.Math.Decide.{dec_le}
 use Rattle.std.proofs.lemmas.Nat.{pow-add}
 use Rattle.std.proofs.lemmas.Nat.Bits.{bit_at-trailing_ones, bit_at-trailing_zeros, bit_at-zero, bit_at_above}
-use Rattle.tds_cells.proofs.Words.{◌≡◌, ◌==◌, ◌+◌, ◌-◌, ◌*◌, ◌/◌, ◌%◌, ◌^◌, ◌<◌, ◌≤◌, ℕ, true, List, AreClear, AreSet, arith, bit, refl}
 
-module _ (bitmap : List ℕ) (at : ℕ) where
+module _ (bitmap : N.List ℕ) (at : ℕ) where
   -- the bits of a byte from this one on
   abbrev bits : ℕ
   bits = slice_index bitmap (at / 8) / 2 ^ (at % 8)
@@ -17,16 +18,16 @@ module _ (bitmap : List ℕ) (at : ℕ) where
   bit_in i within =
       let byte : (at + i) / 8 ≡ at / 8 = omega arith in
       let place : (at + i) % 8 ≡ at % 8 + i = omega arith in
-      rw (byte, place, pow-add, div-div-eq-div-mul) refl
+      rw (byte, place, pow-add, div-div-eq-div-mul) N.refl
 
-  pub clear_byte : bits ≡ 0 → AreClear (bit bitmap) at (at / 8 * 8 + 8)
+  pub clear_byte : bits ≡ 0 → N.AreClear (bit bitmap) at (at / 8 * 8 + 8)
   clear_byte none k least most =
       let there : at + (k - at) ≡ k = omega arith in
       rw there at (rw (none, bit_at-zero) at (bit_in (k - at) (omega arith)))
 
   -- the lowest one that is set
-  pub first_set : slice_index bitmap (at / 8) < 2 ^ 8 → 0 < bits → AreClear (bit bitmap) at (at + trailing_zeros w8 bits)
-      × (bit bitmap (at + trailing_zeros w8 bits) ≡ true)
+  pub first_set : slice_index bitmap (at / 8) < 2 ^ 8 → 0 < bits → N.AreClear (bit bitmap) at (at + trailing_zeros w8 bits)
+      × (bit bitmap (at + trailing_zeros w8 bits) ≡ N.true)
   first_set fits some =
       let t = trailing_zeros w8 bits in
       let low = bit_at-trailing_zeros w8 bits some (omega arith) in
@@ -43,7 +44,7 @@ module _ (bitmap : List ℕ) (at : ℕ) where
       )
 
   -- those that are set before the lowest one that isn't
-  pub ones_before : slice_index bitmap (at / 8) < 2 ^ 8 → (at % 8 + trailing_ones w32 bits ≤ 8) × AreSet (bit bitmap) at (at + trailing_ones w32 bits)
+  pub ones_before : slice_index bitmap (at / 8) < 2 ^ 8 → (at % 8 + trailing_ones w32 bits ≤ 8) × N.AreSet (bit bitmap) at (at + trailing_ones w32 bits)
   ones_before fits =
       let t = trailing_ones w32 bits in
       let ones = bit_at-trailing_ones w32 bits (omega arith) in

@@ -1,8 +1,7 @@
 -- What a cell's spelling is read as.
-use Rattle.tds_cells.proofs.Words as N
-use Rattle.tds_cells.proofs.Words.{◌≡◌, ◌⊎◌, ℕ, ◌+◌, ◌-◌, ◌/◌, ◌%◌, ◌<◌, ◌≤◌, true, List, [], ◌∷◌, ◌++◌, length, refl, ◌∙◌, ap, arith, Ok, Option, Some, ◌==◌}
-use Rattle.tds_cells.proofs.Words.{◌||◌, if◌then◌else◌, concat, Kind, little, Conversion, unit, is_fit, Spelt, Spelt-step, Spelt-append, Null, DataCell, Total}
-use Rattle.tds_cells.proofs.Words.{WholeCell, cell}
+use Rattle.tds_cells.proofs as N
+use N.{◌≡◌, ◌⊎◌, ℕ, ◌+◌, ◌-◌, ◌/◌, ◌%◌, ◌<◌, ◌≤◌, true, List, [], ◌∷◌, ◌++◌, length, refl, ◌∙◌, ap, arith, Ok, Option, Some, ◌==◌, ◌||◌, if◌then◌else◌}
+use N.{concat, Kind, little, Conversion, unit, is_fit, Spelt, Spelt-step, Spelt-append, Null, DataCell, Total, WholeCell, cell}
 
 -- a fixed shape has bytes
 abbrev pub HasBytes : N.Shape → Type 0

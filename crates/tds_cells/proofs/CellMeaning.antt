@@ -1,7 +1,7 @@
 -- What the bytes that lead to a part of a cell spell.
-use Rattle.tds_cells.proofs.Words as N
-use Rattle.tds_cells.proofs.Words.{◌≡◌, ℕ, ◌+◌, ◌/◌, ◌%◌, ◌^◌, ◌<◌, true, List, [], ◌∷◌, ◌++◌, length, refl, ◌∙◌, ap, append_assoc, arith, Ok, Option, None}
-use Rattle.tds_cells.proofs.Words.{◌&&◌, ◌||◌, if◌then◌else◌, Kind, Short, Chunked, little, AreBytes, Shape, LongShape, cell_add}
+use Rattle.tds_cells.proofs as N
+use N.{◌≡◌, ℕ, ◌+◌, ◌/◌, ◌%◌, ◌^◌, ◌<◌, true, List, [], ◌∷◌, ◌++◌, length, refl, ◌∙◌, ap, append_assoc, arith, Ok, Option, None, ◌&&◌, ◌||◌, if◌then◌else◌}
+use N.{Kind, Short, Chunked, little, AreBytes, Shape, LongShape, cell_add}
 
 -- a test that gave no fault passed
 pub unless_none : (b : N.Bool) (f : N.Fault) → N.unless b f ≡ None → b ≡ true

@@ -1,24 +1,23 @@
 -- Cells of values in one chunk at most whose bytes lie together.
+use Rattle.tds_cells.proofs as N
+use N.{◌≡◌, ◌∙◌, ◌==◌, ◌-◌, ℕ, ◌+◌, ◌<◌, ◌≤◌, [], ◌∷◌, ◌++◌, List, length, take, drop, zero, suc, refl, sym, ap, arith, common_steps, SpellsChunked}
+use N.{chunk_data, HasOneChunk}
+use N.CellLaws.{cell_is_read}
 use Rattle.byteorder.specs.Endian.{little_number}
-use Rattle.tds_cells.proofs.Words as N
-use Rattle.tds_cells.proofs.Words.{◌≡◌, ◌∙◌, ◌==◌, ◌-◌, ℕ, ◌+◌, ◌<◌, ◌≤◌, [], ◌∷◌, ◌++◌, List, length, take, drop, zero, suc, refl, sym, ap, arith, little}
-use Rattle.tds_cells.proofs.Words.{common_steps, slice_index, SpellsChunk, SpellsChunked, chunk_data, chunk_end, HasOneChunk, AreBytes}
-use Rattle.tds_cells.proofs.CellLaws.{cell_is_read}
-use Rattle.tds_cells.proofs.CellMeaning.{eight_ones}
 
 -- the number in some bytes within others
 four_at : (k : ℕ) (bytes : List ℕ) → k + 4 ≤ length bytes
-    → (length (take 4 (drop k bytes)) ≡ 4) × (little (take 4 (drop k bytes)) ≡ little_number 4 (drop k bytes))
+    → (length (take 4 (drop k bytes)) ≡ 4) × (N.little (take 4 (drop k bytes)) ≡ little_number 4 (drop k bytes))
 four_at k bytes within = grind (arith, common_steps)
 
-eight_at_front : (bytes : List ℕ) → 8 ≤ length bytes → (length (take 8 bytes) ≡ 8) × (little (take 8 bytes) ≡ little_number 8 bytes)
+eight_at_front : (bytes : List ℕ) → 8 ≤ length bytes → (length (take 8 bytes) ≡ 8) × (N.little (take 8 bytes) ≡ little_number 8 bytes)
 eight_at_front bytes within = grind (arith, common_steps)
 
 -- the terminator
 zeros_at : (k : ℕ) (bytes : List ℕ) → k + 4 ≤ length bytes → little_number 4 (drop k bytes) ≡ 0 → take 4 (drop k bytes) ≡ 0 ∷ 0 ∷ 0 ∷ 0 ∷ []
 zeros_at k bytes within none = grind (arith, common_steps)
 
-bytes_are : (n : ℕ) (bytes : List ℕ) → ((i : ℕ) → slice_index bytes i < 256) → AreBytes (take n bytes)
+bytes_are : (n : ℕ) (bytes : List ℕ) → ((i : ℕ) → N.slice_index bytes i < 256) → N.AreBytes (take n bytes)
 bytes_are zero bytes low = tt
 bytes_are (suc n) [] low = tt
 bytes_are (suc n) (x ∷ xs) low = (low 0, bytes_are n xs (λ i. low (suc i)))
@@ -54,7 +53,7 @@ module _ (bytes : List ℕ) where
       let header = four_at 8 bytes (omega (arith, within)) in
       let d = chunk_data n bytes in
       let counted : length d ≡ n = N.length-take-le n (drop 12 bytes) (omega (arith, within, N.length-drop 12 bytes)) in
-      let chunk : SpellsChunk d (take 4 (drop 8 bytes) ++ d) = record {
+      let chunk : N.SpellsChunk d (take 4 (drop 8 bytes) ++ d) = record {
         header = take 4 (drop 8 bytes);
         spelt = refl;
         four = header.0;
@@ -79,21 +78,21 @@ module _ (bytes : List ℕ) where
       }
 
   -- one chunk whose total agrees, with the terminator, spells its data
-  chunk_spells : (n : ℕ) → HasOneChunk bytes n → SpellsChunked (chunk_data n bytes) (take (chunk_end n) bytes)
+  chunk_spells : (n : ℕ) → HasOneChunk bytes n → SpellsChunked (chunk_data n bytes) (take (N.chunk_end n) bytes)
   chunk_spells n x = N.choose (λ k. SpellsChunked (chunk_data n bytes) (take k bytes)) (n == 0) 12 (16 + n)
       (λ z. let none = N.eq_true n 0 z in rw none (no_chunk (rw none at x)))
       (λ z. one_chunk n (omega (arith, N.eq_false n 0 z)) x)
 
 module _ (column : ℕ) (c : N.Conversion) (last : N.Bool) (bytes text : List ℕ) where
-  pub chunked_null : ((i : ℕ) → slice_index bytes i < 256) → 8 ≤ length bytes → N.stated_total bytes ≡ N.null_total
+  pub chunked_null : ((i : ℕ) → N.slice_index bytes i < 256) → 8 ≤ length bytes → N.stated_total bytes ≡ N.null_total
       → text ≡ N.in_line column last N.null_field → N.WritesWhole (N.Total c) column last (take 8 bytes) text
   chunked_null low within all is =
       let total = eight_at_front bytes within in
-      let ones = eight_ones (take 8 bytes) total.0 (bytes_are 8 bytes low) (total.1 ∙ all) in
+      let ones = N.CellMeaning.eight_ones (take 8 bytes) total.0 (bytes_are 8 bytes low) (total.1 ∙ all) in
       record { value = N.Null; spelt = cell_is_read column (N.Wide N.Chunked) (N.LongShape c N.Chunked) N.Null _ tt ones; text_is = is }
 
   pub chunked_value : (n : ℕ) → HasOneChunk bytes n → N.is_fit c (chunk_data n bytes) ≡ N.true
-      → text ≡ N.in_line column last (N.long_field c (chunk_data n bytes)) → N.WritesWhole (N.Total c) column last (take (chunk_end n) bytes) text
+      → text ≡ N.in_line column last (N.long_field c (chunk_data n bytes)) → N.WritesWhole (N.Total c) column last (take (N.chunk_end n) bytes) text
   chunked_value n x fit is = record {
     value = N.DataCell c (chunk_data n bytes);
     spelt = cell_is_read column (N.Wide N.Chunked) (N.LongShape c N.Chunked) _ _ tt (refl, fit, chunk_spells bytes n x);

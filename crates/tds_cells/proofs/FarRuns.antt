@@ -1,19 +1,16 @@
 -- Runs over rows that are far from the ends, a cell after the comma that stands before it.
-use Rattle.tds_cells.proofs.Words as N
-use Rattle.tds_cells.proofs.Words.{◌≡◌, ◌∙◌, ◌==◌, ℕ, ◌+◌, ◌-◌, ◌≤◌, ◌<◌, Bool, List, []}
-use Rattle.tds_cells.proofs.Words.{◌++◌, ◌∷◌, length, take, drop, get_or, refl, sym, ap, arith, inr, false}
-use Rattle.tds_cells.proofs.Words.{Cursor, CellFormat, RowsRan, RowFormat, Walk, after_comma, end_after, place}
+use Rattle.tds_cells.proofs as N
+use N.{◌≡◌, ◌∙◌, ◌==◌, ℕ, ◌+◌, ◌-◌, ◌≤◌, ◌<◌, List, [], ◌++◌, ◌∷◌, length, take, drop, get_or, sym, ap, arith, CellFormat, RowsRan, RowFormat, after_comma}
+use N.{end_after, place}
+use N.RunSteps.{unused, whole_some}
+use N.RowFormatRuns.{place_known, rows_more, runs_column}
+use N.RowFormatSteps.{last_one, next_known, takes}
 use Rattle.std.proofs.lemmas.List.{get_or-drop}
-use Rattle.tds_cells.proofs.FormatSteps.{left_less, line_beyond}
-use Rattle.tds_cells.proofs.RowTexts.{after_append, after_some_column}
-use Rattle.tds_cells.proofs.RunSteps.{unused, whole_some}
-use Rattle.tds_cells.proofs.RowFormatRuns.{place_known, rows_more, runs_column}
-use Rattle.tds_cells.proofs.RowFormatSteps.{last_one, next_known, takes}
 use Rattle.tds_cells.specs.Runs.{comma_size}
 
 -- the comma of any column but the first
 pub comma_one : (n : ℕ) → comma_size (n + 1) ≡ 1
-comma_one n = ap length (sym (after_some_column (n + 1) (λ e. omega arith)))
+comma_one n = ap length (sym (N.RowTexts.after_some_column (n + 1) (λ e. omega arith)))
 
 -- it has one byte at most
 pub comma_most : (n : ℕ) → comma_size n ≤ 1
@@ -36,7 +33,7 @@ pub far_left : (row_format : RowFormat) (row : List CellFormat) (cells : ℕ) (d
 far_left row_format row cells d bytes room more is less left = λ format rest are.
     let at : cells ≡ cells + 0 = omega arith in
     let next : d ≡ format = is ∙ ap (λ (n : ℕ). get_or row n d) at ∙ sym (get_or-drop cells row 0 d) ∙ ap (λ (fs : List CellFormat). get_or fs 0 d) are in
-    inr (left_less _ _ _ less (N.subst (λ (f : CellFormat). N.IsLeft row_format.charset f.kind bytes more) next left))
+    N.inr (N.FormatSteps.left_less _ _ _ less (N.subst (λ (f : CellFormat). N.IsLeft row_format.charset f.kind bytes more) next left))
 
 -- what stands before the comma of the next cell, that comma, its field and what comes after it
 module _ (cells made m end : ℕ) (old new final e : List ℕ) (begun : comma_size cells ≤ made) (within : made ≤ length old)
@@ -58,7 +55,7 @@ module _ (cells made m end : ℕ) (old new final e : List ℕ) (begun : comma_si
   pub far_text : (at ≤ end) × ((take at final ≡ take at old) × (take (end - at) (drop at final) ≡ after_comma cells (take m (drop made new)) ++ e))
   far_text =
       let k = comma_size cells in
-      let x = line_beyond at k m end old (after_comma cells []) [] new final e (
+      let x = N.FormatSteps.line_beyond at k m end old (after_comma cells []) [] new final e (
         omega (arith, within),
         omega arith,
         omega (arith, there, fits),
@@ -70,13 +67,13 @@ module _ (cells made m end : ℕ) (old new final e : List ℕ) (begun : comma_si
         (
           x.1.0,
           x.1.1 ∙ ap (λ l. (l ++ take m (drop (at + k) new)) ++ e) first ∙ ap (λ l. (after_comma cells [] ++ l) ++ e) field
-              ∙ ap (λ l. l ++ e) (sym (after_append cells [] (take m (drop made new)))),
+              ∙ ap (λ l. l ++ e) (sym (N.RowTexts.after_append cells [] (take m (drop made new)))),
         ),
       )
 
 -- one cell more of the row
-pub far_more : {row_format : RowFormat} {from : Cursor} {walk : Walk} {bytes old : List ℕ} {rows : ℕ} {row : List CellFormat}
-    (cells used u made m end : ℕ) (d : CellFormat) (new final : List ℕ) (last : Bool)
+pub far_more : {row_format : RowFormat} {from : N.Cursor} {walk : N.Walk} {bytes old : List ℕ} {rows : ℕ} {row : List CellFormat}
+    (cells used u made m end : ℕ) (d : CellFormat) (new final : List ℕ) (last : N.Bool)
     → row_format.known ≡ row_format.count → cells < row_format.count → row ≡ take row_format.known row_format.formats.now → last
     ≡ (cells + 1 == row_format.count)
     → d ≡ get_or row cells d → (comma_size cells ≤ made) × ((made ≤ length old) × (u ≤ length (drop used bytes)))
@@ -103,7 +100,7 @@ far_more {row_format = row_format} {walk = walk} {bytes = bytes} {old = old} {ro
     (λ columns knows ahead.
     let next = next_known row_format columns (place walk cells) d.kind knows ahead d some known (omega (arith, row_format.there)) kind_is in
     let after = place_known row_format (place walk cells) cells (cells + 1) all (omega (arith, some)) (omega (arith, some)) columns knows ahead in
-    let taken = takes next refl after in
+    let taken = takes next N.refl after in
     let end_is = last_is ∙ last_one columns (drop (cells + 1) columns) taken.column cells row_format.count knows.counted taken.next in
     rw (left, text.1.1) (runs_column taken end_is (wrote cells last).whole)) x)
 
@@ -114,8 +111,8 @@ pub begins_in : (bytes rest : List ℕ) (u n : ℕ) → unused u rest ≡ drop n
 begins_in bytes rest u n is begins = rw (N.all_after bytes n) (rw is at begins)
 
 -- one cell more of the row, at the front of what is left
-pub rest_more : {row_format : RowFormat} {from : Cursor} {walk : Walk} {bytes old : List ℕ} {rows : ℕ} {row : List CellFormat}
-    (rest : List ℕ) (cells u made m end now : ℕ) (d : CellFormat) (new final : List ℕ) (last : Bool)
+pub rest_more : {row_format : RowFormat} {from : N.Cursor} {walk : N.Walk} {bytes old : List ℕ} {rows : ℕ} {row : List CellFormat}
+    (rest : List ℕ) (cells u made m end now : ℕ) (d : CellFormat) (new final : List ℕ) (last : N.Bool)
     → length rest ≤ length bytes → rest ≡ drop (length bytes - length rest) bytes → now ≡ (length bytes - length rest) + u
     → row_format.known ≡ row_format.count → cells < row_format.count → row ≡ take row_format.known row_format.formats.now
     → last ≡ (cells + 1 == row_format.count)

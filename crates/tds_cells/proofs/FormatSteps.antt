@@ -1,10 +1,9 @@
 -- Runs over cells by their formats, a cell after those that were written.
-use Rattle.tds_cells.proofs.Words as N
-use Rattle.tds_cells.proofs.Words.{◌⊎◌, ◌≡◌, ◌≢◌, ◌∙◌, ℕ, suc, ◌+◌, ◌-◌, ◌<◌, ◌≤◌, Bool, false, List, [], ◌∷◌, ◌++◌, length, take, drop, get_or, refl, ◌*◌, sym}
-use Rattle.tds_cells.proofs.Words.{ap, arith, ◌==◌, ◌&&◌, Column, end_after, Charset, CellFormat, inl, inr}
-use Rattle.tds_cells.proofs.RowTexts.{after_some_column, after_append}
-use Rattle.tds_cells.proofs.RunSteps.{made_more, used_more, whole_some, unused}
-use Rattle.tds_cells.proofs.RowFormatSteps.{known_kind, last_one}
+use Rattle.tds_cells.proofs as N
+use N.{◌⊎◌, ◌≡◌, ◌≢◌, ◌∙◌, ℕ, suc, ◌+◌, ◌-◌, ◌<◌, ◌≤◌, Bool, false, List, [], ◌∷◌, ◌++◌, length, take, drop, get_or, refl, ◌*◌, sym, ap, arith, ◌==◌, ◌&&◌}
+use N.{Column, end_after, Charset, CellFormat, inl, inr}
+use N.RowTexts.{after_some_column, after_append}
+use N.RunSteps.{made_more, used_more, whole_some, unused}
 use borrow.Rule.Slice.PartMut.{put_mid}
 use Rattle.std.proofs.lemmas.List.{drop-append-le, drop-set-add, take-set-le}
 use Rattle.tds_cells.specs.FormatRuns.{IsLatest, NumbersWithin}
@@ -24,7 +23,7 @@ module _ (formats : List CellFormat) (ends : Bool) (columns : List Column) (next
     where
       go : (b : Bool) → (length formats == length columns) ≡ b → (ends && (k + 1 == length formats)) ≡ N.is_last_column rest
       go N.true e = ap (λ v. v && (k + 1 == length formats)) (next.ends_are ∙ e)
-          ∙ last_one columns rest c k _ (N.eq_true _ _ e) step
+          ∙ N.RowFormatSteps.last_one columns rest c k _ (N.eq_true _ _ e) step
       go false e = ap (λ v. v && (k + 1 == length formats)) (next.ends_are ∙ e) ∙ not_last rest (more (N.eq_false _ _ e))
         where
           more : length formats ≢ length columns → 0 < length rest
@@ -38,7 +37,7 @@ module _ (formats : List CellFormat) (ends : Bool) (columns : List Column) (next
     step = grind (arith, N.drop_more, few)
 
     kind_is : (get_or formats k d).kind ≡ next_column.kind
-    kind_is = known_kind _ _ _ k d _ (ap (N.map _) (N.take_all _ formats (omega arith))
+    kind_is = N.RowFormatSteps.known_kind _ _ _ k d _ (ap (N.map _) (N.take_all _ formats (omega arith))
         ∙ next.kinds_are) within (omega arith) (omega (arith, few))
 
     -- the cell after this many

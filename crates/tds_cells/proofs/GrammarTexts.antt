@@ -1,6 +1,6 @@
 -- What bytes make by a grammar.
-use Rattle.tds_cells.proofs.Words as N
-use Rattle.tds_cells.proofs.Words.{◌≡◌, ℕ, ◌+◌, ◌-◌, List, [], ◌++◌, arith, Fault, Grammar, Writes}
+use Rattle.tds_cells.proofs as N
+use N.{◌≡◌, ℕ, ◌+◌, ◌-◌, List, [], ◌++◌, arith, Fault, Grammar, Writes}
 
 module _ {S : Type 0} {g : Grammar S Fault} {text : S → List ℕ} where
   pub writes_none : {s : S} → Writes g text s [] [] s

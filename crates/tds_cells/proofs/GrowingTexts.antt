@@ -1,7 +1,6 @@
 -- What a text that grows is, and what the cells and rows that are read add to it.
-use Rattle.tds_cells.proofs.Words as N
-use Rattle.tds_cells.proofs.Words.{◌≡◌, ℕ, Bool, true, List, [], ◌∷◌, ◌++◌, arith, Option, Some, None, ◌==◌, ◌||◌, joined, Cell, rules}
-use Rattle.tds_cells.proofs.CellMeaning.{unless_none}
+use Rattle.tds_cells.proofs as N
+use N.{◌≡◌, ℕ, Bool, true, List, [], ◌∷◌, ◌++◌, arith, Option, Some, None, ◌==◌, ◌||◌, joined, Cell, rules}
 
 -- the second text begins with the first
 abbrev pub Grows : List ℕ → List ℕ → Type 0
@@ -63,7 +62,7 @@ end_fit _ c _ _ n h z = grind arith
 module _ (column : ℕ) where
   -- each element of a cell adds to its text
   pub cell_grows : (p : N.CellPart) (e : List ℕ) → N.IsNext (N.cell column) p e → OptionGrows (N.field_so_far p) (N.field_so_far (N.cell_add p e))
-  cell_grows p e n = grind (arith, N.common_steps, unless_none, open_more, long_grows, last_fit)
+  cell_grows p e n = grind (arith, N.common_steps, N.CellMeaning.unless_none, open_more, long_grows, last_fit)
 
 module _ (charset : N.Charset) where
   -- the cells to come begin

@@ -1,6 +1,6 @@
 -- Cells by how their values are laid out.
-use Rattle.tds_cells.proofs.Words as N
-use Rattle.tds_cells.proofs.Words.{◌&&◌, ◌≡◌, ℕ, ◌<◌, true, List, length, arith, Kind, CellFormat, Layout, Each}
+use Rattle.tds_cells.proofs as N
+use N.{◌&&◌, ◌≡◌, ℕ, ◌<◌, true, List, length, arith, Kind, CellFormat, Layout, Each}
 use Rattle.tds_cells.specs.LongFields.{LongWritten}
 use Rattle.tds_cells.specs.CellTexts.{CellWritten}
 use Rattle.tds_values.specs.declared.kind.Reach.{Reach}

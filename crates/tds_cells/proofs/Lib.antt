@@ -18,3 +18,4 @@ mod ChunkedCells
 pub mod NbcRuns
 mod NullRuns
 mod FarRuns
+pub use Words.*

@@ -1,9 +1,7 @@
 -- NBCROWs that are whole in the packet, one after another.
-use Rattle.tds_cells.proofs.Words as N
-use Rattle.tds_cells.proofs.Words.{arith, sym, ◌≡◌, ◌+◌, ℕ, List, ◌∷◌, drop, refl, Column}
-use Rattle.tds_cells.proofs.Words.{Cursor, ◌∙◌, ◌-◌, ◌≤◌, ◌<◌, [], ◌++◌, length, ap}
-use Rattle.tds_cells.proofs.Words.{Charset}
-use Rattle.tds_cells.proofs.RunSteps.{made_more, unused, used_more}
+use Rattle.tds_cells.proofs as N
+use N.{◌≡◌, ◌+◌, ℕ, List, ◌∷◌, drop, ◌∙◌, ◌-◌, ◌≤◌, ◌<◌, [], ◌++◌, length, ap}
+use N.RunSteps.{made_more, unused, used_more}
 
 module _ (used size : ℕ) (bytes : List ℕ) where
   -- the bitmap and the cells of the row after those that were used
@@ -14,7 +12,7 @@ module _ (used size : ℕ) (bytes : List ℕ) where
   cells = unused size (unused used bytes)
 
   -- one more before the token byte of another, in the bytes that are left and after what was made
-  pub nbc_row_more : (charset : Charset) (columns : List Column) (n u made m : ℕ) (to text left : List ℕ) → made ≤ length to → m ≤ length text
+  pub nbc_row_more : (charset : N.Charset) (columns : List N.Column) (n u made m : ℕ) (to text left : List ℕ) → made ≤ length to → m ≤ length text
       → 0 < length (unused u cells) → N.get_or (unused u cells) 0 0 ≡ N.token_byte N.NbcRow → length bitmap ≡ N.bitmap_length (length columns)
       → N.WritesNbcRows charset columns n (N.take used bytes) (N.take made to)
       → N.WritesMarked charset columns (N.bit bitmap) 0 (length columns) (N.take u cells) (N.take m text)
@@ -23,9 +21,9 @@ module _ (used size : ℕ) (bytes : List ℕ) where
       let row_bytes : N.take (size + (u + 1)) (unused used bytes) ≡ (bitmap ++ N.take u cells) ++ N.token_byte N.NbcRow ∷ [] =
       used_more size (u + 1) (unused used bytes) ∙ ap (λ l. bitmap ++ l) (used_more u 1 cells
       ∙ ap (λ l. N.take u cells ++ l) (N.take_more (unused u cells) 0 0 more ∙ ap (λ b. b ∷ []) next))
-      ∙ sym (N.append_assoc bitmap (N.take u cells) _) in
-      let place : used + (size + u) + 1 ≡ used + (size + (u + 1)) = omega arith in
-      let suc : N.suc n ≡ n + 1 = omega arith in
+      ∙ N.sym (N.append_assoc bitmap (N.take u cells) _) in
+      let place : used + (size + u) + 1 ≡ used + (size + (u + 1)) = omega N.arith in
+      let suc : N.suc n ≡ n + 1 = omega N.arith in
       N.subst (λ k. N.WritesNbcRows charset columns k (N.take (used + (size + u) + 1) bytes) (N.take (made + m) (N.take made to ++ (text ++ left)))) suc (
         N.take used bytes,
         bitmap ++ N.take u cells,
@@ -34,11 +32,11 @@ module _ (used size : ℕ) (bytes : List ℕ) where
         ap (λ k. N.take k bytes) place ∙ used_more used (size + (u + 1)) bytes ∙ ap (λ l. N.take used bytes ++ l) row_bytes,
         made_more made m to text left within fits,
         before,
-        record { bitmap = bitmap; cells = N.take u cells; joined = refl; whole = whole; writes = row },
+        record { bitmap = bitmap; cells = N.take u cells; joined = N.refl; whole = whole; writes = row },
       )
 
   -- the last, which no other follows
-  pub nbc_row_last : (charset : Charset) (columns : List Column) (n u made m : ℕ) (to text left : List ℕ) → made ≤ length to → m ≤ length text
+  pub nbc_row_last : (charset : N.Charset) (columns : List N.Column) (n u made m : ℕ) (to text left : List ℕ) → made ≤ length to → m ≤ length text
       → length bitmap ≡ N.bitmap_length (length columns) → N.WritesNbcRows charset columns n (N.take used bytes) (N.take made to)
       → N.WritesMarked charset columns (N.bit bitmap) 0 (length columns) (N.take u cells) (N.take m text)
       → N.WritesWholeRows charset columns n N.true (N.take (used + (size + u)) bytes) (N.take (made + m) (N.take made to ++ (text ++ left)))
@@ -50,11 +48,11 @@ module _ (used size : ℕ) (bytes : List ℕ) where
     used_more used (size + u) bytes ∙ ap (λ l. N.take used bytes ++ l) (used_more size u (unused used bytes)),
     made_more made m to text left within fits,
     before,
-    record { bitmap = bitmap; cells = N.take u cells; joined = refl; whole = whole; writes = row },
+    record { bitmap = bitmap; cells = N.take u cells; joined = N.refl; whole = whole; writes = row },
   )
 
   -- the row after them isn't written so
-  pub nbc_rows_end : (row_format : N.RowFormat) (start : Cursor) (made : ℕ) (to text : List ℕ) (run : N.CellRun) → size ≡ N.bitmap_length row_format.count
+  pub nbc_rows_end : (row_format : N.RowFormat) (start : N.Cursor) (made : ℕ) (to text : List ℕ) (run : N.CellRun) → size ≡ N.bitmap_length row_format.count
       → start.column ≡ 0 → N.MarkedWritten row_format (N.bit bitmap) start cells text run
       → N.EndsFar row_format (N.bit bitmap) run.ahead (drop run.used cells) (length (unused made to) - run.made)
       → (run.ahead.column ≡ row_format.count → ⊥) → N.EndsNbcRows row_format (N.bitmap_length row_format.count) N.false (drop used bytes) (length to - made)

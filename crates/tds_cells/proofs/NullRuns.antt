@@ -1,18 +1,16 @@
 -- NULLs by their bits, in columns after one another.
-use Rattle.tds_cells.proofs.Words as N
-use Rattle.tds_cells.proofs.Words.{◌≡◌, ◌∙◌, ◌==◌, ℕ, ◌+◌, ◌*◌, ◌-◌, ◌≤◌, ◌<◌, Bool, List, [], ◌++◌, zero, suc, length, take, drop, refl, sym, ap, arith}
-use Rattle.tds_cells.proofs.Words.{AreSet, WritesNulls, Column, Charset}
-use Rattle.tds_cells.proofs.RowFormatSteps.{last_one}
+use Rattle.tds_cells.proofs as N
+use N.{◌≡◌, ◌∙◌, ◌==◌, ℕ, ◌+◌, ◌*◌, ◌-◌, ◌≤◌, ◌<◌, Bool, List, [], ◌++◌, zero, suc, length, take, refl, ap, arith, WritesNulls, Column}
 
 -- a column that is NULL by its bit
-null_column : (charset : Charset) (columns : List Column) (nulls : ℕ → Bool) (k : ℕ) → k < length columns → nulls k ≡ N.true
+null_column : (charset : N.Charset) (columns : List Column) (nulls : ℕ → Bool) (k : ℕ) → k < length columns → nulls k ≡ N.true
     → N.WritesColumn charset columns nulls k [] (N.in_line k (k + 1 == length columns) N.null_field)
 null_column _ columns nulls k within null =
     let c : Column = grind arith in
     let column = N.get_or columns k c in
     let next = N.drop_more columns k c within in
-    let last = last_one columns (drop (k + 1) columns) column k (length columns) refl next in
-    record { column = column; left = drop (k + 1) columns; next = next; writes = rw null (refl, ap (λ (e : Bool). N.in_line k e N.null_field) last) }
+    let last = N.RowFormatSteps.last_one columns (N.drop (k + 1) columns) column k (length columns) refl next in
+    record { column = column; left = N.drop (k + 1) columns; next = next; writes = rw null (refl, ap (λ (e : Bool). N.in_line k e N.null_field) last) }
 
 -- the text of so many, none of which is the first or the last of its row
 abbrev pub nulls_text : ℕ → List ℕ
@@ -24,7 +22,7 @@ nulls_length zero = refl
 nulls_length (suc n) = omega (arith, nulls_length n, N.length-append (nulls_text n) (N.in_line 1 N.false N.null_field))
 
 nulls_both : (n m : ℕ) → nulls_text (n + m) ≡ nulls_text n ++ nulls_text m
-nulls_both n zero = rw N.add-zero (sym (N.append-nil (nulls_text n)))
+nulls_both n zero = rw N.add-zero (N.sym (N.append-nil (nulls_text n)))
 nulls_both n (suc m) =
     let at : n + suc m ≡ suc (n + m) = omega arith in
     rw at (ap (λ l. l ++ N.in_line 1 N.false N.null_field) (nulls_both n m) ∙ N.append_assoc (nulls_text n) (nulls_text m) _)
@@ -36,7 +34,7 @@ first_nulls n rest few =
     let more = nulls_text (8 - n) ++ rest in
     let text : nulls_text 8 ++ rest ≡ nulls_text n ++ more =
     ap (λ k. nulls_text k ++ rest) all ∙ ap (λ l. l ++ rest) (nulls_both n (8 - n)) ∙ N.append_assoc (nulls_text n) (nulls_text (8 - n)) rest in
-    ap (take (5 * n)) text ∙ ap (λ k. take k (nulls_text n ++ more)) (sym (nulls_length n)) ∙ N.take-append_seam (nulls_text n) more
+    ap (take (5 * n)) text ∙ ap (λ k. take k (nulls_text n ++ more)) (N.sym (nulls_length n)) ∙ N.take-append_seam (nulls_text n) more
 
 -- the text of NULL neither first nor last in its row
 inner_null : (k n : ℕ) → 0 < k → k + 1 < n → N.in_line k (k + 1 == n) N.null_field ≡ N.in_line 1 N.false N.null_field
@@ -46,8 +44,8 @@ inner_null k n some within =
     rw (first, last) refl
 
 -- columns that are NULL by their bit, after the first and before the last
-pub nulls_inside : (nulls : ℕ → Bool) (from n count : ℕ) → 0 < from → from + n < count → AreSet nulls from (from + n)
-    → (charset : Charset) (columns : List Column) → length columns ≡ count → N.WritesMarked charset columns nulls from n [] (nulls_text n)
+pub nulls_inside : (nulls : ℕ → Bool) (from n count : ℕ) → 0 < from → from + n < count → N.AreSet nulls from (from + n)
+    → (charset : N.Charset) (columns : List Column) → length columns ≡ count → N.WritesMarked charset columns nulls from n [] (nulls_text n)
 nulls_inside _ _ zero _ _ _ _ _ _ _ = (refl, refl)
 nulls_inside nulls from (suc n) count some within set charset columns counted =
     let one = null_column charset columns nulls (from + n) (omega arith) (set (from + n) (omega arith) (omega arith)) in

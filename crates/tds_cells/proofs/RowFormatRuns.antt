@@ -1,17 +1,15 @@
 -- Runs of cells over the columns that a row format knows: more cells after those that were written.
+use Rattle.tds_cells.proofs as N
+use N.{arith, false, ◌∷◌, ◌≡◌, ◌∙◌, ap, ℕ, ◌+◌, ◌-◌, ◌<◌, ◌≤◌, List, ◌++◌, length, take, drop, Column, Cursor, RowsRan, RowFormat, suc, Bool, sym, RunsMarked}
+use N.{inl, ◌⊎◌, ◌==◌, ◌≢◌, CellFormat, IsCursor, Knows, inr, true, []}
+use N.RunSteps.{made_more, marked_writes, rows_both, rows_none, rows_onward, used_more, unused}
+use N.FormatSteps.{some_first}
 use Rattle.std.proofs.lemmas.List.{get_or-drop}
-use Rattle.tds_cells.proofs.Words as N
-use Rattle.tds_cells.proofs.Words.{arith, false, ◌∷◌, ◌≡◌, ◌∙◌, ap, ℕ, ◌+◌, ◌-◌, ◌<◌, ◌≤◌, List, ◌++◌, length, take, drop, Column, Cursor, RowsRan, RowFormat}
-use Rattle.tds_cells.proofs.Words.{Cell, none_null}
-use Rattle.tds_cells.proofs.Words.{suc, Bool, sym, RunsMarked, inl, ◌⊎◌, ◌==◌, ◌≢◌, CellFormat, IsCursor, Knows, inr, true, []}
-use Rattle.tds_cells.proofs.RowFormatSteps.{known_kind, none_next}
-use Rattle.tds_cells.proofs.RunSteps.{made_more, marked_writes, rows_both, rows_none, rows_onward, used_more, unused}
-use Rattle.tds_cells.proofs.FormatSteps.{some_first}
 
 -- Between two places of rows, over the ends of so many, these bytes are their cells, and this is their text.
 abbrev pub RowsBetween : RowFormat → List Column → Cursor → Cursor → ℕ → List ℕ → List ℕ → Type 0
 RowsBetween row_format columns old new count bytes text = IsCursor row_format columns new
-    × ((charset : N.Charset) (cells : List Cell) → row_format.charset ≡ charset → length cells ≡ old.column
+    × ((charset : N.Charset) (cells : List N.Cell) → row_format.charset ≡ charset → length cells ≡ old.column
     → N.WritesRows charset columns cells (drop old.column columns) (drop new.column columns) new.column count bytes text)
 
 pub rows_begin : {row_format : RowFormat} {from : Cursor} {bytes to : List ℕ}
@@ -38,7 +36,7 @@ row_begun {bytes = bytes} {run = run} some at (begins, first) ahead x =
       few = omega arith;
       writes = λ columns knows is.
           let y = x.writes columns knows is in
-          let none = none_next columns run.ahead.column knows.counted at in (
+          let none = N.RowFormatSteps.none_next columns run.ahead.column knows.counted at in (
             ahead columns knows y.0,
             λ charset cells set counted. rw first
                 (rows_onward run.used bytes (omega arith) none within byte (y.1 charset cells set counted)),
@@ -116,7 +114,7 @@ module _ (charset : N.Charset) (columns : List Column) where
 
   -- columns whose bits are clear
   pub marked_clear : (nulls : ℕ → Bool) (from n : ℕ) (bytes text : List ℕ) → ((k : ℕ) → from ≤ k → k < from + n → nulls k ≡ false)
-      → N.WritesMarked charset columns none_null from n bytes text → N.WritesMarked charset columns nulls from n bytes text
+      → N.WritesMarked charset columns N.none_null from n bytes text → N.WritesMarked charset columns nulls from n bytes text
   marked_clear _ _ N.zero _ _ _ x = x
   marked_clear nulls from (suc n) _ _ clear x =
       let last = x.7 in
@@ -141,7 +139,7 @@ module _ {row_format : RowFormat} {columns : List Column} {nulls : ℕ → Bool}
 module _ {row_format : RowFormat} {columns : List Column} {nulls : ℕ → Bool} {from to : Cursor} where
   -- a run over columns whose bits are clear
   pub runs_clear : {bytes text : List ℕ} → ((k : ℕ) → from.column ≤ k → k < to.column → nulls k ≡ false)
-      → RunsMarked row_format columns none_null from to bytes text → RunsMarked row_format columns nulls from to bytes text
+      → RunsMarked row_format columns N.none_null from to bytes text → RunsMarked row_format columns nulls from to bytes text
   runs_clear clear x = grind (arith, marked_clear)
 
   -- more cells, in the bytes that are left and after what was made
@@ -236,7 +234,7 @@ module _ (row_format : RowFormat) (from : Cursor) (end : ℕ) (formats : List Ce
       let kinds_are : N.map (λ f. f.kind) (take (length formats) formats) ≡ N.kinds (take (length formats) next) =
       ap (N.map _) (N.take_all (length formats) formats (omega arith)) ∙ ahead.next columns knows is in
       let further : k < length next = omega (arith, ap length there, N.length-drop k next) in
-      let kind_is = rw (first, second) at (known_kind formats next (length formats) k format column kinds_are some (omega arith) further) in
+      let kind_is = rw (first, second) at (N.RowFormatSteps.known_kind formats next (length formats) k format column kinds_are some (omega arith) further) in
       elim (x format rest are) [ inl few ↦ inl few | inr y ↦ inr (rw kind_is at y) ]
 
 -- ---- rows that are far from the ends

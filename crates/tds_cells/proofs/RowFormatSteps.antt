@@ -1,7 +1,7 @@
 -- A row format of columns, column by column.
-use Rattle.tds_cells.proofs.Words as N
-use Rattle.tds_cells.proofs.Words.{◌≡◌, ◌⊎◌, ◌&&◌, ◌∙◌, ℕ, ◌+◌, ◌≤◌, ◌<◌, List, [], ◌∷◌, length, take, drop, get_or, sym, ap, arith, map, ◌==◌, Kind, Column}
-use Rattle.tds_cells.proofs.Words.{columns_left, Cursor, CellFormat, IsCursor}
+use Rattle.tds_cells.proofs as N
+use N.{◌≡◌, ◌⊎◌, ◌&&◌, ◌∙◌, ℕ, ◌+◌, ◌≤◌, ◌<◌, List, [], ◌∷◌, length, take, drop, get_or, sym, ap, arith, map, ◌==◌, Kind, Column, columns_left, Cursor}
+use N.{CellFormat, IsCursor}
 use Rattle.tds_columns.specs.declared.walk.Column as walks
 
 -- what is ahead begins with the next column

@@ -1,7 +1,6 @@
 -- What a row's spelling is read as.
-use Rattle.tds_cells.proofs.Words as N
-use Rattle.tds_cells.proofs.Words.{◌≡◌, ℕ, ◌<◌, Bool, List, [], ◌∷◌, ◌++◌, length, arith, Spelt, Column, Cell, Bitmap, row}
-use Rattle.tds_cells.proofs.CellLaws.{HasBytes, cell_is_read}
+use Rattle.tds_cells.proofs as N
+use N.{◌≡◌, ℕ, ◌<◌, Bool, List, [], ◌∷◌, ◌++◌, length, arith, Spelt, Column, Cell, Bitmap, row}
 
 -- the bitmap of some columns has some bytes
 pub some_bitmap : (columns : List Column) → 0 < length columns → 0 < N.bitmap_length (length columns)
@@ -9,7 +8,7 @@ some_bitmap _ h = omega arith
 
 module _ (charset : N.Charset) where
   -- each fixed kind has bytes
-  pub shape-HasBytes : (kind : N.Kind) → HasBytes (N.shape charset kind)
+  pub shape-HasBytes : (kind : N.Kind) → N.CellLaws.HasBytes (N.shape charset kind)
   shape-HasBytes _ = grind arith
 
   pub cell_in_row : (cells : List Cell) (ks : List (Column × Bool)) → N.Inside (N.cell (length cells)) (row charset) (N.with_cell charset cells ks)
@@ -25,7 +24,7 @@ module _ (charset : N.Charset) where
   cells_are_read _ [] [] bytes h = search N.rules
   cells_are_read before ((k, N.true) ∷ ks) (c ∷ cs) bytes h = grind (arith, N.append_assoc, (cells_are_read (before ++ N.Null ∷ []) ks cs bytes h.1))
   cells_are_read before ((k, N.false) ∷ ks) (c ∷ cs) _ h =
-      let one = cell_is_read _ k.kind _ c h.0 (shape-HasBytes k.kind) h.3 in
+      let one = N.CellLaws.cell_is_read _ k.kind _ c h.0 (shape-HasBytes k.kind) h.3 in
       let first = rw begins_open at (N.Inside-Spelt _ _ _ (cell_in_row before ks) _ h.0 _ one) in
       let more = rw N.append_assoc at (cells_are_read (before ++ c ∷ []) ks cs h.1 h.4) in
       rw h.2 (N.Spelt-append _ _ h.0 _ h.1 _ first more)

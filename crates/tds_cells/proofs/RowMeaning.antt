@@ -1,8 +1,6 @@
 -- What the bytes that lead to a part of a row spell.
-use Rattle.tds_cells.proofs.Words as N
-use Rattle.tds_cells.proofs.Words.{◌≡◌, ℕ, Bool, true, false, List, [], ◌∷◌, ◌++◌, length, refl, sym, ◌∙◌, ap, arith, AreBytes, Column, Cell, SpellsMarked}
-use Rattle.tds_cells.proofs.Words.{marked, RowPart, Bitmap, row}
-use Rattle.tds_cells.proofs.CellMeaning.{CellMeans, cell_step}
+use Rattle.tds_cells.proofs as N
+use N.{◌≡◌, ℕ, Bool, true, false, List, [], ◌∷◌, ◌++◌, length, refl, sym, ◌∙◌, ap, arith, AreBytes, Column, Cell, SpellsMarked, marked, RowPart, Bitmap, row}
 
 module _ (charset : N.Charset) where
   one_more_null : (ks : List (Column × Bool)) (cs : List Cell) (b : List ℕ) (k : Column) → SpellsMarked charset ks cs b
@@ -29,7 +27,7 @@ module _ (charset : N.Charset) where
     pub split : all ≡ (before ++ (column, false) ∷ []) ++ ks
     pub spelt : bytes ≡ front ++ rest
     pub whole : SpellsMarked charset before cells front
-    pub begun : CellMeans column.kind (N.shape charset column.kind) part rest
+    pub begun : N.CellMeaning.CellMeans column.kind (N.shape charset column.kind) part rest
 
   -- the part of a row in these marked columns
   abbrev pub MarkedMean : List (Column × Bool) → RowPart → List ℕ → Type 0
@@ -61,7 +59,7 @@ module _ (charset : N.Charset) where
 
   marked_step : (all : List (Column × Bool)) {p : RowPart} (b e : List ℕ) → AreBytes e → MarkedMean all p b → N.IsNext (row charset) p e
       → MarkedMean all (N.row_add charset p e) (b ++ e)
-  marked_step _ b e bytes h n = grind (arith, N.append_assoc, cell_step, with_means)
+  marked_step _ b e bytes h n = grind (arith, N.append_assoc, N.CellMeaning.cell_step, with_means)
 
   -- what the bytes after the token byte of a row spell: of a ROW, or of an NBCROW
   abbrev pub RowMeans : List Column → Bool → RowPart → List ℕ → Type 0

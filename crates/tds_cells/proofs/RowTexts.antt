@@ -1,10 +1,9 @@
 -- The text of the cells of a row, element after element.
-use Rattle.tds_cells.proofs.Words as N
-use Rattle.tds_cells.proofs.Words.{◌≡◌, ◌∙◌, ℕ, ◌+◌, ◌-◌, ◌<◌, Bool, false, List, [], ◌∷◌, ◌++◌, length, sym, ap, arith, None, map, Kind}
-use Rattle.tds_cells.proofs.Words.{Column, joined, Charset, Cell, CellPart, WholeCell, cell, cell_start, field, cell_so_far, true, Some, opened, ◌≢◌, refl}
-use Rattle.tds_cells.proofs.RowLaws.{begins_open, cell_in_row}
-use Rattle.tds_cells.proofs.GrammarTexts.{writes_inside}
-use Rattle.tds_cells.proofs.GrowingTexts.{Grows, OptionGrows, cell_grows, grows_all, grows_same, grows_trans}
+use Rattle.tds_cells.proofs as N
+use N.{◌≡◌, ◌∙◌, ℕ, ◌+◌, ◌-◌, ◌<◌, Bool, false, List, [], ◌∷◌, ◌++◌, length, sym, ap, arith, None, map, Column, joined, Charset, Cell, CellPart, WholeCell}
+use N.{cell, field, cell_so_far, true, Some, opened, ◌≢◌, refl}
+use N.GrammarTexts.{writes_inside}
+use N.GrowingTexts.{Grows, OptionGrows, cell_grows, grows_all, grows_same, grows_trans}
 
 -- ---- fields in their line
 
@@ -22,7 +21,7 @@ joined_snoc (g ∷ h ∷ gs) f = grind (arith, N.append_assoc, (joined_snoc (h �
 -- ---- a cell whose text comes with its last element alone
 
 -- before its first element a cell has no text
-pub start_quiet : (kind : Kind) (s : N.Shape) → N.field_so_far (cell_start kind s) ≡ None
+pub start_quiet : (kind : N.Kind) (s : N.Shape) → N.field_so_far (N.cell_start kind s) ≡ None
 start_quiet _ s = grind arith
 
 pub quiet_text : (column : ℕ) (last : Bool) (at : CellPart) → N.field_so_far at ≡ None → cell_so_far column last at ≡ []
@@ -137,5 +136,5 @@ module _ (charset : Charset) (cells : List Cell) (ks : List (Column × Bool)) wh
   pub row_cell : (c : Column) → nulls_ahead (length cells + 1) ks ≡ [] → {bytes made : List ℕ} {v : Cell}
       → N.Writes (N.cell (length cells)) (N.cell_so_far (length cells) (ends ks)) (N.cell_start c.kind (N.shape charset c.kind)) bytes made (N.WholeCell v)
       → N.Writes (N.row charset) N.row_so_far (N.next_cell charset cells ((c, false) ∷ ks)) bytes made (N.next_cell charset (cells ++ v ∷ []) ks)
-  row_cell c none x = rw begins_open at (writes_inside {whole = N.row_so_far} (joined (map field cells)) (cell_in_row charset cells ks)
+  row_cell c none x = rw N.RowLaws.begins_open at (writes_inside {whole = N.row_so_far} (joined (map field cells)) (N.RowLaws.cell_in_row charset cells ks)
       (grind (arith, N.append-nil, part_text)) x)

@@ -1,12 +1,8 @@
 -- The cells of a run, as they are written one after another.
-use Rattle.tds_cells.proofs.Words as N
-use Rattle.tds_cells.proofs.Words.{false, ◌≡◌, ◌∙◌, ℕ, ◌+◌, ◌-◌, ◌≤◌, ◌<◌, Bool, List, [], ◌∷◌, ◌++◌, length, take, drop, refl, sym, ap, arith, true}
-use Rattle.tds_cells.proofs.Words.{Column, Charset, Cell, cell_start, shape, PlainRow, row, row_so_far, Writes, WritesRows, after_cells, lines, rows}
-use Rattle.tds_cells.proofs.Words.{rows_so_far, Kind}
-use Rattle.tds_cells.proofs.RowTexts.{row_cell}
-use Rattle.tds_cells.proofs.RowTexts.{coming, none_ahead}
-use Rattle.tds_cells.proofs.GrammarTexts.{writes_both, writes_inside, writes_none}
-use Rattle.tds_cells.proofs.RowFormatSteps.{next_column}
+use Rattle.tds_cells.proofs as N
+use N.{false, ◌≡◌, ◌∙◌, ℕ, ◌+◌, ◌-◌, ◌≤◌, ◌<◌, Bool, List, [], ◌∷◌, ◌++◌, length, take, drop, refl, sym, arith, Column, Charset, Cell, cell_start, PlainRow}
+use N.{row, row_so_far, Writes, WritesRows, after_cells, lines, rows, rows_so_far, Kind}
+use N.GrammarTexts.{writes_both, writes_inside, writes_none}
 
 -- ---- cells of a row
 
@@ -22,7 +18,7 @@ whole_of x = record {
 
 -- a scalar cell, in any set
 pub writes_scalar : (set : Charset) (kind : Kind) (column : ℕ) (last : Bool) (bytes made : List ℕ)
-    → ((any : Charset) → N.WritesCell (cell_start kind (shape any kind)) column last bytes made) → N.WritesKind set kind column last bytes made
+    → ((any : Charset) → N.WritesCell (cell_start kind (N.shape any kind)) column last bytes made) → N.WritesKind set kind column last bytes made
 writes_scalar _ _ _ _ _ _ x = grind (arith, whole_of)
 
 -- what is made after what was made
@@ -42,11 +38,11 @@ used_more _ u _ = grind (arith, N.take-add, N.all_after)
 pub made_same : (made : ℕ) (to rest : List ℕ) → made ≤ length to → take made (take made to ++ rest) ≡ take made to
 made_same _ _ _ within = grind (arith, N.take-append-le, N.length-take-le, N.take_all)
 
-pub scalar_whole : (kind : Kind) (bytes : List ℕ) → N.is_scalar kind ≡ true → N.whole_size kind bytes ≡ N.scalar_size kind bytes
+pub scalar_whole : (kind : Kind) (bytes : List ℕ) → N.is_scalar kind ≡ N.true → N.whole_size kind bytes ≡ N.scalar_size kind bytes
 scalar_whole _ _ h = grind arith
 
 -- it is left as a scalar cell is
-pub scalar_left : (set : Charset) (kind : Kind) (bytes : List ℕ) (room : ℕ) → N.is_scalar kind ≡ true → N.IsLeft set kind bytes room
+pub scalar_left : (set : Charset) (kind : Kind) (bytes : List ℕ) (room : ℕ) → N.is_scalar kind ≡ N.true → N.IsLeft set kind bytes room
     → N.IsScalarLeft kind bytes
 scalar_left _ _ _ _ scalar h5 = grind arith
 
@@ -58,7 +54,7 @@ whole_some _ _ = grind arith
 
 pub lines-append : (rs qs : List (List Cell)) → lines (rs ++ qs) ≡ lines rs ++ lines qs
 lines-append [] qs = refl
-lines-append (r ∷ rs) qs = ap (λ l. N.line (N.map N.field r) ++ l) (lines-append rs qs) ∙ sym (N.append_assoc _ (lines rs) (lines qs))
+lines-append (r ∷ rs) qs = N.ap (λ l. N.line (N.map N.field r) ++ l) (lines-append rs qs) ∙ sym (N.append_assoc _ (lines rs) (lines qs))
 
 -- some columns are to come, so no line ends there
 pub start_text : (token : N.RowToken) (charset : Charset) (columns : List Column) → 0 < length columns → row_so_far (N.token_start token charset columns) ≡ []
@@ -91,14 +87,14 @@ cell_writes _ _ x = grind arith
 
 -- a cell after these, in its row
 after_more : {bytes made : List ℕ} {v : Cell} (charset : Charset) (cells : List Cell) (c : Column) (left : List Column)
-    → Writes (N.cell (length cells)) (N.cell_so_far (length cells) (N.is_last_column left)) (cell_start c.kind (shape charset c.kind)) bytes made
+    → Writes (N.cell (length cells)) (N.cell_so_far (length cells) (N.is_last_column left)) (cell_start c.kind (N.shape charset c.kind)) bytes made
     (N.WholeCell v)
     → Writes (row charset) row_so_far (after_cells charset cells (c ∷ left)) bytes made (after_cells charset (cells ++ v ∷ []) left)
 after_more {bytes = bytes} {made = made} {v = v} charset cells c left x =
     let n = length cells + 1 in
     N.subst (λ (k : ℕ). Writes (row charset) row_so_far (after_cells charset cells (c ∷ left)) bytes made
-    (N.next_cell charset (cells ++ v ∷ []) (coming left k))) (sym (N.length-append cells _))
-    (row_cell _ _ _ c (none_ahead _ n) (grind arith))
+    (N.next_cell charset (cells ++ v ∷ []) (N.RowTexts.coming left k))) (sym (N.length-append cells _))
+    (N.RowTexts.row_cell _ _ _ c (N.RowTexts.none_ahead _ n) (grind arith))
 
 pub rows_none : {charset : Charset} {all : List Column} {cells : List Cell} {columns : List Column} {column : ℕ} → length cells ≡ column
     → WritesRows charset all cells columns columns column 0 [] []
@@ -118,7 +114,7 @@ module _ {charset : Charset} {all : List Column} {cells : List Cell} {from : ℕ
       let one = after_more charset x.more w.column w.left (cell_writes w.column.kind _ z) in
       let after = λ (l : List Column). after_cells charset (x.more ++ z.value ∷ []) l in
       let next = N.subst (λ l. Writes (row charset) row_so_far (after_cells charset x.more (w.column ∷ w.left)) b q (after l))
-      (sym (next_column all at w.next).1.1) one in
+      (sym (N.RowFormatSteps.next_column all at w.next).1.1) one in
       record {
         more = x.more ++ z.value ∷ [];
         counted = omega (arith, N.length-append x.more (z.value ∷ []));

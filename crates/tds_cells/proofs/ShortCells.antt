@@ -1,7 +1,7 @@
 -- Cells of short values whose bytes lie together.
-use Rattle.tds_cells.proofs.Words as N
-use Rattle.tds_cells.proofs.Words.{◌≡◌, ◌≢◌, ◌∙◌, ℕ, ◌+◌, ◌/◌, ◌%◌, ◌<◌, ◌≤◌, [], ◌∷◌, ◌++◌, length, take, drop, arith}
-use Rattle.tds_cells.proofs.CellLaws.{cell_is_read}
+use Rattle.tds_cells.proofs as N
+use N.{◌≡◌, ◌≢◌, ◌∙◌, ℕ, ◌+◌, ◌/◌, ◌%◌, ◌<◌, ◌≤◌, [], ◌∷◌, ◌++◌, length, take, drop, arith}
+use N.CellLaws.{cell_is_read}
 
 module _ (column : ℕ) (kind : N.Kind) (c : N.Conversion) (last : N.Bool) (bytes text : N.List ℕ) (within : 2 ≤ length bytes) (low : N.slice_index bytes 0 < 256)
     (high : N.slice_index bytes 1 < 256) where

@@ -1,10 +1,9 @@
 -- Scalar cells whose bytes lie together.
+use Rattle.tds_cells.proofs as N
+use N.{◌≡◌, ◌≢◌, ◌∙◌, ℕ, ◌+◌, ◌-◌, ◌<◌, ◌≤◌, Bool, true, List, [], ◌++◌, length, take, drop, Ok, refl, ap, arith, ◌∷◌, ◌||◌, Kind, shape, WritesCell}
 use Rattle.std.specs.Prelude.{IsTrue}
 use Rattle.tds_values.specs.Kind.{is_valid}
 use Rattle.tds_values.specs.ScalarText.{text_of}
-use Rattle.tds_cells.proofs.Words as N
-use Rattle.tds_cells.proofs.Words.{◌≡◌, ◌≢◌, ◌∙◌, ℕ, ◌+◌, ◌-◌, ◌<◌, ◌≤◌, Bool, true, List, [], ◌++◌, length, take, drop, Ok, refl, ap, arith, ◌∷◌, ◌||◌, Kind}
-use Rattle.tds_cells.proofs.Words.{shape, WritesCell}
 use Rattle.tds_values.specs.Kind.{fixed_length}
 
 pub scalar_shape : (charset : N.Charset) (kind : Kind) → N.is_scalar kind ≡ true → N.shape charset kind ≡ N.shape_of_length (fixed_length kind)

@@ -1,7 +1,6 @@
 -- The bytes of a character in UTF-8, alone and with a quote doubled.
 use Rattle.tds_text.proofs as N
-use N.{List, [], arith, doubled, length, take, ℕ, ◌%◌, ◌++◌, ◌+◌, ◌/◌, ◌<◌, ◌∷◌, ◌≡◌, ◌≢◌, ◌≤◌}
-use N.Words.{encode_utf8}
+use N.{List, [], arith, doubled, length, take, ℕ, ◌%◌, ◌++◌, ◌+◌, ◌/◌, ◌<◌, ◌∷◌, ◌≡◌, ◌≢◌, ◌≤◌, encode_utf8}
 use Rattle.std.specs.Char.{encode_utf8}
 
 pub of_one : (c : ℕ) → c < 128 → encode_utf8 c ≡ c ∷ []

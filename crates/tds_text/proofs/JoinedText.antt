@@ -1,9 +1,6 @@
 -- Text whose characters have one or two bytes, found by a look at each byte with the next one.
 use Rattle.tds_text.proofs as N
-use N.{◌≡◌, ◌∙◌, ℕ, ◌+◌, ◌-◌, ◌<◌, ◌≤◌, Bool, List, [], ◌∷◌, IsUtf8, ap, arith, doubled, drop, false, get_or, inl, inr, length, not, refl, suc, take, true}
-use N.{zero}
-use N.Singles.{one_utf8}
-use N.Utf8Laws.{two_bytes}
+use N.{◌≡◌, ◌∙◌, ℕ, ◌+◌, ◌-◌, ◌<◌, ◌≤◌, List, [], ◌∷◌, IsUtf8, ap, arith, doubled, drop, false, get_or, length, suc, take, true, zero}
 use Rattle.std.proofs.lemmas.Bool.{cases_Bool}
 use Rattle.std.proofs.lemmas.List.{drop-drop}
 use Rattle.tds_text.specs.Joined.{is_joined, is_lead, is_trail, pairs_at}
@@ -35,11 +32,11 @@ joined_at source at n there few = run_joins 16 (drop at source) n (grind (arith,
 
 -- the text after a byte of ASCII, and after a character of two bytes
 after_one : (a : ℕ) (text : List ℕ) → N.is_plain a ≡ true → IsUtf8 text × (doubled text ≡ text) → IsUtf8 (a ∷ text) × (doubled (a ∷ text) ≡ a ∷ text)
-after_one a text plain more = (N.IsUtf8-append (a ∷ []) text (one_utf8 a (grind arith)) more.0, grind (arith, more.1))
+after_one a text plain more = (N.IsUtf8-append (a ∷ []) text (N.Singles.one_utf8 a (grind arith)) more.0, grind (arith, more.1))
 
 after_two : (a b : ℕ) (text : List ℕ) → is_lead a ≡ true → is_trail b ≡ true → IsUtf8 text × (doubled text ≡ text)
     → IsUtf8 (a ∷ b ∷ text) × (doubled (a ∷ b ∷ text) ≡ a ∷ b ∷ text)
-after_two a b text lead trail more = (N.IsUtf8-append (a ∷ b ∷ []) text (grind (arith, two_bytes)) more.0, grind (arith, more.1))
+after_two a b text lead trail more = (N.IsUtf8-append (a ∷ b ∷ []) text (grind (arith, N.Utf8Laws.two_bytes)) more.0, grind (arith, more.1))
 
 -- whole bytes of it, the last of which begins no character of two bytes
 joined_text : (n : ℕ) (xs : List ℕ) → AreJoined n xs → is_trail (get_or xs 0 0) ≡ false → ((k : ℕ) → n ≡ suc k → is_lead (get_or xs k 0) ≡ false)
@@ -49,15 +46,15 @@ joined_text zero xs joined first last = grind arith
 joined_text (suc n) [] joined first last = absurd joined
 joined_text (suc n) (a ∷ []) joined first last = absurd joined
 joined_text (suc zero) (a ∷ b ∷ xs) joined first last =
-    let other : is_lead a ≡ false = last 0 refl in
-    after_one a [] (grind arith) (N.IsUtf8-nil, refl)
+    let other : is_lead a ≡ false = last 0 N.refl in
+    after_one a [] (grind arith) (N.IsUtf8-nil, N.refl)
 joined_text (suc (suc n)) (a ∷ b ∷ []) joined first last = absurd joined.1
 joined_text (suc (suc n)) (a ∷ b ∷ d ∷ xs) joined first last = elim (cases_Bool (is_lead a)) [
-  | inl lead ↦
+  | N.inl lead ↦
       let trail : is_trail b ≡ true = grind arith in
       let more = joined_text n (d ∷ xs) joined.1.1 (grind arith) (λ k is. last (suc (suc k)) (ap suc (ap suc is))) in
       after_two a b (take n (d ∷ xs)) lead trail more
-  | inr other ↦
+  | N.inr other ↦
       after_one a (take (suc n) (b ∷ d ∷ xs)) (grind arith) (joined_text (suc n) (b ∷ d ∷ xs) joined.1 (grind arith) (λ k is. last (suc k) (ap suc is)))
 ]
 

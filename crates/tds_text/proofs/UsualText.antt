@@ -2,7 +2,6 @@
 use Rattle.tds_text.proofs as N
 use N.{◌≡◌, ℕ, ◌+◌, ◌*◌, ◌<◌, ◌≤◌, List, [], ◌∷◌, ◌++◌, IsUtf8, arith, doubled, drop, get_or, length, take}
 use N.JoiningLemmas.{doubled-append}
-use N.Singles.{itself_taken, one_taken, one_utf8, plain_doubled, plain_utf8}
 use Rattle.tds_text.specs.Utf8Scan.{Converts}
 
 -- the next two bytes, and the next three
@@ -36,13 +35,13 @@ module _ (bytes : List ℕ) (at made : ℕ) {old new : List ℕ} (before : Conve
     within = within;
     room = grind arith;
     whole = grind (arith, whole_after);
-    text = itself_taken doubled doubled-append bytes at n written itself before.text;
+    text = N.Singles.itself_taken doubled doubled-append bytes at n written itself before.text;
   }
 
   -- so were bytes of ASCII
   pub added_plain : (n : ℕ) → end ≡ made + n → at + n ≤ length bytes → take end new ≡ take made old ++ take n (drop at bytes)
       → N.ArePlain (take n (drop at bytes)) → Converts bytes new (at + n) end
-  added_plain = grind (arith, added, plain_utf8, plain_doubled)
+  added_plain = grind (arith, added, N.Singles.plain_utf8, N.Singles.plain_doubled)
 
   -- a byte of ASCII was added, twice if it is a quote
   pub added_one : at < length bytes → get_or bytes at 0 < 128 → end ≤ made + 2
@@ -50,6 +49,6 @@ module _ (bytes : List ℕ) (at made : ℕ) {old new : List ℕ} (before : Conve
   added_one within ascii most written = record {
     within = omega arith;
     room = grind arith;
-    whole = rw (N.take_more bytes at 0 within) (N.IsUtf8-append (take at bytes) (get_or bytes at 0 ∷ []) before.whole (one_utf8 _ ascii));
-    text = one_taken doubled doubled-append bytes at within written before.text;
+    whole = rw (N.take_more bytes at 0 within) (N.IsUtf8-append (take at bytes) (get_or bytes at 0 ∷ []) before.whole (N.Singles.one_utf8 _ ascii));
+    text = N.Singles.one_taken doubled doubled-append bytes at within written before.text;
   }

@@ -1,17 +1,16 @@
 -- The laws of UTF-16 in pieces.
 use Rattle.tds_text.proofs as N
-use N.{◌≡◌, ℕ, ◌%◌, ◌≤◌, ◌&&◌, Bool, true, false, cond, List, [], ◌∷◌, ◌++◌, length, refl, ap, ◌∙◌, arith, ⊤, emit, doubled}
-use N.JoiningLemmas.{doubled-append, settled_front}
+use N.{◌≡◌, ℕ, ◌%◌, ◌≤◌, ◌&&◌, false, List, [], ◌∷◌, ◌++◌, length, ap, ◌∙◌, arith, ⊤, emit, doubled}
 use Rattle.tds_text.specs.Utf16.{units, is_high, IsFit, text, rest}
 use Rattle.std.specs.Char.Utf16.{utf16_chars}
 
 -- the first unit is a low surrogate
-unfoldable pub starts_low : List ℕ → Bool
+unfoldable pub starts_low : List ℕ → N.Bool
 starts_low [] = false
 starts_low (u ∷ us) = N.is_low_surrogate u
 
 -- the first unit is a high surrogate
-abbrev starts_high : List ℕ → Bool
+abbrev starts_high : List ℕ → N.Bool
 starts_high [] = false
 starts_high (u ∷ us) = N.is_high_surrogate u
 
@@ -27,20 +26,20 @@ Apart-tail = grind arith
 -- the characters of units that are cut where no pair lies
 pub chars-apart : (us vs : List ℕ) → Apart us vs → utf16_chars (us ++ vs) ≡ utf16_chars us ++ utf16_chars vs
 unfolding utf16_chars starts_low
-chars-apart [] vs h = refl
-chars-apart (u ∷ []) [] h = refl
+chars-apart [] vs h = N.refl
+chars-apart (u ∷ []) [] h = N.refl
 chars-apart (u ∷ []) (v ∷ vs) h = grind arith
 chars-apart (u ∷ v ∷ us) vs h = grind (arith, chars-apart us vs (grind arith), chars-apart (v ∷ us) vs h)
 
-high_is_not_low : (u : ℕ) → N.is_high_surrogate u ≡ true → N.is_low_surrogate u ≡ false
+high_is_not_low : (u : ℕ) → N.is_high_surrogate u ≡ N.true → N.is_low_surrogate u ≡ false
 high_is_not_low = grind arith
 
 -- the bytes before the rest
 abbrev pub front : List ℕ → List ℕ
 front [] = []
 front (odd ∷ []) = []
-front (low ∷ high ∷ []) = cond (is_high low high) [] (low ∷ high ∷ [])
-front (low ∷ high ∷ odd ∷ []) = cond (is_high low high) [] (low ∷ high ∷ [])
+front (low ∷ high ∷ []) = N.cond (is_high low high) [] (low ∷ high ∷ [])
+front (low ∷ high ∷ odd ∷ []) = N.cond (is_high low high) [] (low ∷ high ∷ [])
 front (low ∷ high ∷ low' ∷ high' ∷ bytes) = low ∷ high ∷ front (low' ∷ high' ∷ bytes)
 
 -- a unit that is no high surrogate is settled, whatever follows
@@ -67,7 +66,7 @@ seam (low ∷ high ∷ odd ∷ []) b = grind arith
 seam (low ∷ high ∷ low' ∷ high' ∷ bytes) b = let more = seam (low' ∷ high' ∷ bytes) b in grind arith
 
 -- no pair lies across the end of the front, where no low surrogate comes first after a rest that begins with a high one
-Apart-front : (a vs : List ℕ) → (starts_high (units (rest a)) ≡ true → starts_low vs ≡ false) → Apart (units (front a)) vs
+Apart-front : (a vs : List ℕ) → (starts_high (units (rest a)) ≡ N.true → starts_low vs ≡ false) → Apart (units (front a)) vs
 Apart-front [] vs f = tt
 Apart-front (odd ∷ []) vs f = tt
 Apart-front (low ∷ high ∷ []) vs f = grind arith
@@ -77,13 +76,13 @@ Apart-front (low ∷ high ∷ low' ∷ high' ∷ bytes) vs f = grind (arith, Apa
 -- the text of units is that of both parts where no pair lies across
 texts : (us vs : List ℕ) → Apart us vs → doubled (N.encode_utf8_all (N.utf16_lossy_chars (us ++ vs))) ≡ doubled (N.encode_utf8_all (N.utf16_lossy_chars us))
     ++ doubled (N.encode_utf8_all (N.utf16_lossy_chars vs))
-texts = grind (arith, chars-apart, N.map-append, N.encodes-append, doubled-append)
+texts = grind (arith, chars-apart, N.map-append, N.encodes-append, N.JoiningLemmas.doubled-append)
 
 text-front : (a b : List ℕ) → Apart (units (front a)) (units b) → text (front a ++ b) ≡ text (front a) ++ text b
 text-front a b h = ap (λ us. doubled (N.encode_utf8_all (N.utf16_lossy_chars us))) (seam a b).units_are ∙ texts (units (front a)) (units b) h
 
 pub emit-front : (a : List ℕ) → emit rest text a ≡ text (front a)
-emit-front a = ap text (settled_front rest a (front a) (seam a []).whole)
+emit-front a = ap text (N.JoiningLemmas.settled_front rest a (front a) (seam a []).whole)
 
 emits : (a b : List ℕ) → emit rest text (a ++ b) ≡ emit rest text a ++ emit rest text (rest a ++ b)
 unfolding starts_low

@@ -1,7 +1,7 @@
 -- The laws of UTF-8 in pieces.
 use Rattle.tds_text.proofs as N
 use N.{Bool, IsUtf8, List, None, Some, [], ap, arith, cases_lt, cond, emit, encode_utf8, false, get_or, inl, inr, is_utf8, length, nat_tests, of3, of4, refl}
-use N.{second_byte_max, second_byte_min, suc, sym, take, true, zero, ℕ, ◌*◌, ◌++◌, ◌+◌, ◌-◌, ◌<◌, ◌∙◌, ◌∷◌, ◌≡◌, ◌≤◌, ◌⊎◌}
+use N.{second_byte_max, second_byte_min, suc, take, true, zero, ℕ, ◌*◌, ◌++◌, ◌+◌, ◌-◌, ◌<◌, ◌∙◌, ◌∷◌, ◌≡◌, ◌≤◌, ◌⊎◌}
 use N.JoiningLemmas.{doubled-append, settled_front}
 use Rattle.std.specs.Str.Lossy.{utf8_error_len, utf8_valid_len}
 use Rattle.tds_text.specs.Utf8.{Begins, IsFit, rest, text}
@@ -42,7 +42,7 @@ length-front bs = N.length-take-le _ bs (N.utf8_valid_len_le bs)
 
 front-rest : (bs : List ℕ) → bs ≡ front bs ++ rest bs
 unfolding front
-front-rest bs = sym (N.take-append-drop _ bs)
+front-rest bs = N.sym (N.take-append-drop _ bs)
 
 -- what follows a text in a text is a text
 after_text : (w z : List ℕ) → IsUtf8 w → IsUtf8 (w ++ z) → IsUtf8 z
@@ -177,7 +177,7 @@ front_none c (x ∷ y ∷ z ∷ v ∷ r) more tail k (of4 a b d w l u f g h s e'
 pub begins_none : (bytes : List ℕ) → Begins bytes → utf8_error_len (rest bytes) ≡ None
 begins_none bytes begins = elim (begun_rest bytes begins) [
   | inl none ↦ rw none (unfold utf8_error_len in refl)
-  | inr part ↦ let k = N.scalar_cases part.0 part.2 in front_none part.0 (rest bytes) begins.0 part.1 k (N.shape part.0 k) (sym part.3) part.4
+  | inr part ↦ let k = N.scalar_cases part.0 part.2 in front_none part.0 (rest bytes) begins.0 part.1 k (N.shape part.0 k) (N.sym part.3) part.4
 ]
 
 pub two_bytes : (a b : ℕ) → 194 ≤ a → a < 224 → second_byte_min a ≤ b → b ≤ second_byte_max a → IsUtf8 (a ∷ b ∷ [])

@@ -1,11 +1,11 @@
-use Rattle.tds_cells.proofs.nulls.clear_end.Goals as goal
-use Rattle.tds_cells.proofs.Words.{arith, rules}
-use Rattle.tds_cells.proofs.Bits.{clear_byte, first_set}
+use Rattle.tds_cells.proofs as N
+use N.nulls.clear_end.Goals as goal
+use N.{arith}
 
 pub loop-at-preserved : goal.loop-at-preserved
-loop-at-preserved c = grind (arith, clear_byte)
+loop-at-preserved c = grind (arith, N.Bits.clear_byte)
 
 pub returns-then-bits-ne0 : goal.returns-then-bits-ne0
 returns-then-bits-ne0 c =
-    let set = first_set c.args.bitmap.now c.loop-at.at (search rules) (omega arith) in
+    let set = N.Bits.first_set c.args.bitmap.now c.loop-at.at (search N.rules) (omega arith) in
     grind arith

@@ -1,10 +1,9 @@
-use Rattle.tds_cells.proofs.whole.write_cell.Goals as goal
-use Rattle.tds_cells.proofs.Words.{inl, ◌≡◌, ◌∙◌, ◌+◌, ◌-◌, ℕ, take, drop, sym, ap, subst, arith, rules, is_ok, in_line, cell_start, shape}
-use Rattle.tds_cells.proofs.Words.{WritesCell}
-use Rattle.tds_cells.proofs.ValueCells.{IsValueText, null_cell, refused_left, value_cell}
-use Rattle.tds_cells.proofs.LaidOut.{HasValueAt, counted_there, empty_left, fixed_there, long_laid, value_there}
-use Rattle.tds_cells.proofs.RunSteps.{writes_scalar}
-use Rattle.tds_cells.proofs.whole.write_cell.Goals.{in-Fixed, in-Counted}
+use Rattle.tds_cells.proofs as N
+use N.whole.write_cell.Goals as goal
+use N.{◌≡◌, ◌∙◌, ◌+◌, ◌-◌, ℕ, take, ap, arith, rules, in_line}
+use N.LaidOut.{HasValueAt, counted_there, empty_left, fixed_there, long_laid, value_there}
+use N.RunSteps.{writes_scalar}
+use N.whole.write_cell.Goals.{in-Fixed, in-Counted}
 
 pub returns-then-n-eq0 : goal.returns-then-n-eq0
 returns-then-n-eq0 c = record {
@@ -21,9 +20,9 @@ returns-then-n-eq0 c = record {
         ] in
         let at = value_there _ _ _ _ _ _ c.requires.laid there in
         writes_scalar _ _ _ _ _ _ (λ charset.
-        subst (λ (n : ℕ). WritesCell (cell_start kind (shape charset kind)) column last (take (c.match-format-3.start.0 + n) c.args.bytes.now) text)
-        (sym c.if-n-eq0.true)
-        (null_cell _ _ _ _ _ _ at.0 _ at.1.0 (sym at.1.1 ∙ c.if-n-eq0.true) (search (arith, rules))
+        N.subst (λ (n : ℕ). N.WritesCell (N.cell_start kind (N.shape charset kind)) column last (take (c.match-format-3.start.0 + n) c.args.bytes.now) text)
+        (N.sym c.if-n-eq0.true)
+        (N.ValueCells.null_cell _ _ _ _ _ _ at.0 _ at.1.0 (N.sym at.1.1 ∙ c.if-n-eq0.true) (search (arith, rules))
         (ap (in_line column last) c.write_null-made.ensures.text))),
   );
 }
@@ -45,10 +44,10 @@ returns-in-Ok c = record {
         let text = in_line column last (take c.in-Ok.made c.write_scalar.new.to) in
         let after : (start + c.match-format-3.start.1) - start ≡ c.match-format-3.start.1 = omega arith in
         let x = c.in-Ok.ensures.written in
-        let is : IsValueText kind column last (take ((start + c.match-format-3.start.1) - start) (drop start c.args.bytes.now)) text =
+        let is : N.ValueCells.IsValueText kind column last (take ((start + c.match-format-3.start.1) - start) (N.drop start c.args.bytes.now)) text =
         (x.0, x.1.0, ap (in_line column last) x.1.1.0) in
         writes_scalar _ _ _ _ _ _ (λ charset.
-        value_cell _ _ _ _ _ _ at.0 _ _ at.1.0 at.1.1 c.if-n-eq0.false (search (arith, rules)) (rw after at is)),
+        N.ValueCells.value_cell _ _ _ _ _ _ at.0 _ _ at.1.0 at.1.1 c.if-n-eq0.false (search (arith, rules)) (rw after at is)),
   );
 }
 
@@ -61,7 +60,7 @@ returns-in-Err c =
           w.start-is
     ] in
     let at = value_there _ _ _ _ _ _ c.requires.laid there in
-    record { cell = inl (at.0, refused_left _ _ _ _ at.1.0 at.1.1 c.if-n-eq0.false (ap is_ok c.in-Err.ensures.refused)) }
+    record { cell = N.inl (at.0, N.ValueCells.refused_left _ _ _ _ at.1.0 at.1.1 c.if-n-eq0.false (ap N.is_ok c.in-Err.ensures.refused)) }
 
 pub returns-then-is_empty : goal.returns-then-is_empty
 returns-then-is_empty c = record {

@@ -1,6 +1,5 @@
 use Rattle.tds_text.proofs as N
 use N.{◌≡◌, ◌∙◌, ℕ, ◌+◌, ◌-◌, ◌*◌, ◌≤◌, [], ◌∷◌}
-use N.SingleLaws.{hex-front}
 
 marked : (to : N.List ℕ) → 2 ≤ N.length to → N.take 2 (N.slice_set (N.slice_set to 0 48) 1 120) ≡ 48 ∷ 120 ∷ []
 marked (a ∷ b ∷ to) h = N.refl
@@ -18,5 +17,5 @@ returns-then-to-clause-field c =
     let few : 2 * n ≤ 32 = omega N.arith in
     let within : n ≤ N.length source = omega N.arith in
     let digits : N.take (2 * n) new ≡ N.encode_lower (N.take n source) = N.sym (N.take-take (2 * n) 32 new few) ∙ N.ap (N.take (2 * n)) c.put_digits.ensures
-    ∙ N.ap (λ (k : ℕ). N.take (2 * n) (N.encode_lower (N.take k source))) (N.sym all) ∙ hex-front n (16 - n) source within in
+    ∙ N.ap (λ (k : ℕ). N.take (2 * n) (N.encode_lower (N.take k source))) (N.sym all) ∙ N.SingleLaws.hex-front n (16 - n) source within in
     grind (N.arith, marked, N.take-append-add, N.take-append-le, digits)

@@ -1,5 +1,4 @@
 use Rattle.tds_text.proofs as N
-use N.{cond}
 
 pub returns : N.lanes_utf16.other_units.Goals.returns
 returns c =

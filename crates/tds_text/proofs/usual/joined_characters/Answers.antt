@@ -1,7 +1,6 @@
 use Rattle.tds_text.proofs as N
 use N.usual.joined_characters.Goals as goal
-use N.{◌≡◌, ◌<◌, ◌≤◌, ◌+◌, ◌-◌, get_or, length}
-use N.JoinedText.{run_text, run_text_before}
+use N.{◌≡◌, ◌<◌, ◌≤◌, ◌+◌, ◌-◌}
 use N.LaneMasks.{pairs_most}
 use Rattle.tds_text.specs.Joined.{is_joined}
 
@@ -11,7 +10,7 @@ returns-then-begins_two-clause-most c =
 
 pub returns-then-begins_two-clause-next : goal.returns-then-begins_two-clause-next
 returns-then-begins_two-clause-next c =
-    let run = run_text_before c.args.bytes.now c.args.source.now c.args.at c.requires.lies (omega (N.arith, c.requires.there)) (grind N.arith)
+    let run = N.JoinedText.run_text_before c.args.bytes.now c.args.source.now c.args.at c.requires.lies (omega (N.arith, c.requires.there)) (grind N.arith)
     c.min-n.result (omega N.arith) (omega N.arith) (omega N.arith) (grind N.arith) in
     record { within = omega N.arith; whole = run.0; unquoted = run.1 }
 
@@ -21,6 +20,6 @@ returns-clause-most c =
 
 pub returns-clause-next : goal.returns-clause-next
 returns-clause-next c =
-    let run = run_text c.args.bytes.now c.args.source.now c.args.at c.requires.lies (omega (N.arith, c.requires.there)) (grind N.arith)
+    let run = N.JoinedText.run_text c.args.bytes.now c.args.source.now c.args.at c.requires.lies (omega (N.arith, c.requires.there)) (grind N.arith)
     c.min-n.result (omega N.arith) (omega N.arith) (λ some. grind N.arith) in
     record { within = omega N.arith; whole = run.0; unquoted = run.1 }

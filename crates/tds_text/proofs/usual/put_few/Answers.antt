@@ -1,13 +1,12 @@
 use Rattle.tds_text.proofs as N
 use N.usual.put_few.Goals as goal
 use N.{◌≡◌, ◌∙◌}
-use N.UsualText.{three_put, three_there, two_there}
 
 pub returns-then-n-eq2-clause-written : goal.returns-then-n-eq2-clause-written
-returns-then-n-eq2-clause-written c = grind (N.arith, N.common_steps, two_there, N.append_assoc)
+returns-then-n-eq2-clause-written c = grind (N.arith, N.common_steps, N.UsualText.two_there, N.append_assoc)
 
 pub returns-clause-written : goal.returns-clause-written
 returns-clause-written c =
     let three : c.args.n ≡ 3 = omega N.arith in
-    three_put _ _ _ _ c.put_byte-one.ensures.written c.put_byte-two.ensures.written c.put_byte.ensures.written
-    (N.ap (λ n. N.take n (N.drop c.args.at c.args.bytes.now)) three ∙ three_there c.args.bytes.now c.args.at (omega N.arith))
+    N.UsualText.three_put _ _ _ _ c.put_byte-one.ensures.written c.put_byte-two.ensures.written c.put_byte.ensures.written
+    (N.ap (λ n. N.take n (N.drop c.args.at c.args.bytes.now)) three ∙ N.UsualText.three_there c.args.bytes.now c.args.at (omega N.arith))

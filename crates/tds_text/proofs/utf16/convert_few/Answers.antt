@@ -1,16 +1,14 @@
 use Rattle.tds_text.proofs as N
 use N.utf16.convert_few.Goals as goal
 use N.{◌≡◌, ◌∙◌, ◌++◌, ◌*◌, ◌%◌, ◌/◌, ℕ, [], ap, length}
-use N.JoiningLemmas.{emit_held}
-use N.Utf16Laws.{joins_utf16}
 use N.Utf16Steps.{text_nil}
 use Rattle.tds_text.specs.Utf16.{rest, text}
 
 -- what leads to nothing is the whole text
 all_led : (bytes out : N.List ℕ) → length bytes % 2 ≡ 0 → N.Leads rest text bytes [] out → text bytes ≡ out
 all_led bytes out whole leads =
-    let none = ap (λ l. out ++ l) (emit_held rest text [] text_nil N.refl) ∙ N.append-nil out in
-    joins_utf16.ends bytes whole ∙ ap (λ l. N.emit rest text bytes ++ l) (ap text leads.keeps ∙ text_nil) ∙ N.append-nil _ ∙ leads.emits ∙ none
+    let none = ap (λ l. out ++ l) (N.JoiningLemmas.emit_held rest text [] text_nil N.refl) ∙ N.append-nil out in
+    N.Utf16Laws.joins_utf16.ends bytes whole ∙ ap (λ l. N.emit rest text bytes ++ l) (ap text leads.keeps ∙ text_nil) ∙ N.append-nil _ ∙ leads.emits ∙ none
 
 pub returns-clause-text : goal.returns-clause-text
 returns-clause-text c =

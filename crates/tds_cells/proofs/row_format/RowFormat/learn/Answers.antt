@@ -1,8 +1,9 @@
-use Rattle.tds_cells.proofs.row_format.RowFormat.learn.Goals as goal
-use Rattle.tds_cells.proofs.row_format.RowFormat.learn.Goals.{else-loop-known-test, then-loop-known-test+in_default}
-use Rattle.tds_cells.proofs.Words.{◌∙◌, ap, inl, inr, sym, arith, IsLaidOut, columns_of, is_counted, is_int4, length, length-drop, rules}
-use Rattle.tds_cells.proofs.LaidOut.{each_set, kind_set}
-use Rattle.tds_cells.proofs.RowFormatSteps.{all_more, first_more, next_column}
+use Rattle.tds_cells.proofs as N
+use N.row_format.RowFormat.learn.Goals as goal
+use N.{◌∙◌, ap, sym, arith, is_counted, is_int4}
+use N.row_format.RowFormat.learn.Goals.{else-loop-known-test, then-loop-known-test+in_default}
+use N.LaidOut.{each_set, kind_set}
+use N.RowFormatSteps.{all_more, first_more, next_column}
 
 pub loop-known-init : goal.loop-known-init
 loop-known-init c = record {
@@ -21,14 +22,14 @@ pub loop-known-preserved : goal.loop-known-preserved
 loop-known-preserved c =
     let inv = c.loop-known.invariant in
     let step = sym inv.rest ∙ c.in-Some.ensures.steps in
-    let columns = columns_of c.args.columns.bytes.now in
+    let columns = N.columns_of c.args.columns.bytes.now in
     let next = next_column columns _ step in
     record {
-      most = search (arith, rules);
+      most = search (arith, N.rules);
       few = omega arith;
       first = first_more _ columns _ c.of.result
           (omega arith) inv.first step c.of.ensures.kind;
-      laid = each_set (λ f. IsLaidOut c.args.charset f.kind f.layout) _ _ c.of.result inv.laid
+      laid = each_set (λ f. N.IsLaidOut c.args.charset f.kind f.layout) _ _ c.of.result inv.laid
           (omega arith) c.of.ensures.laid;
       numbers = kind_set is_int4 _ _ c.of.result _ c.is_int4-only_numbers.result inv.numbers
           (omega arith) (c.is_int4-only_numbers.ensures ∙ ap is_int4 (sym c.of.ensures.kind));
@@ -42,7 +43,7 @@ loop-known-preserved c =
 pub returns : goal.returns
 returns c =
     let inv = c.loop-known.invariant in
-    let columns = columns_of c.args.columns.bytes.now in
+    let columns = N.columns_of c.args.columns.bytes.now in
     record {
       there = inv.most;
       few = inv.few;
@@ -51,12 +52,12 @@ returns c =
       numbers = inv.numbers;
       counted = inv.counted;
       all = elim c.loop-known-test.branch [
-        | else-loop-known-test w ↦ inl (omega (arith, inv.most))
-        | then-loop-known-test+in_default w ↦ inr (omega (
+        | else-loop-known-test w ↦ N.inl (omega (arith, inv.most))
+        | then-loop-known-test+in_default w ↦ N.inr (omega (
           arith,
           inv.few,
-          length-drop c.loop-known.known columns,
-          ap length (sym inv.rest ∙ w.in_default.ensures.steps.0),
+          N.length-drop c.loop-known.known columns,
+          ap N.length (sym inv.rest ∙ w.in_default.ensures.steps.0),
         ))
       ];
       numbers_are = inv.numbers_are;

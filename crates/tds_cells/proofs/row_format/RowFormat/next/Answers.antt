@@ -1,5 +1,5 @@
-use Rattle.tds_cells.proofs.RowFormatSteps.{takes}
+use Rattle.tds_cells.proofs as N
 
 pub returns-clause-taken : Rattle.tds_cells.proofs.row_format.RowFormat.next.Goals.returns-clause-taken
 returns-clause-taken c = λ columns knows ahead.
-    takes (c.in_ok-format.ensures.next columns knows ahead) c.step.ensures.further (c.step.ensures.ahead columns knows ahead)
+    N.RowFormatSteps.takes (c.in_ok-format.ensures.next columns knows ahead) c.step.ensures.further (c.step.ensures.ahead columns knows ahead)

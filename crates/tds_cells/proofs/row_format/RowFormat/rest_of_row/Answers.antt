@@ -1,7 +1,7 @@
-use Rattle.tds_cells.proofs.row_format.RowFormat.rest_of_row.Goals as goal
-use Rattle.tds_cells.proofs.Words as N
-use Rattle.tds_cells.proofs.Words.{arith, ◌-◌}
-use Rattle.tds_cells.proofs.RowFormatRuns.{known_ahead}
+use Rattle.tds_cells.proofs as N
+use N.row_format.RowFormat.rest_of_row.Goals as goal
+use N.{arith, ◌-◌}
+use N.RowFormatRuns.{known_ahead}
 
 pub returns-clause-ahead : goal.returns-clause-ahead
 returns-clause-ahead c =

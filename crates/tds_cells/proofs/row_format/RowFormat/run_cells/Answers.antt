@@ -1,5 +1,6 @@
-use Rattle.tds_cells.proofs.row_format.RowFormat.run_cells.Goals as goal
-use Rattle.tds_cells.proofs.Words.{arith}
+use Rattle.tds_cells.proofs as N
+use N.row_format.RowFormat.run_cells.Goals as goal
+use N.{arith}
 
 pub returns-in-Some-clause-ends : goal.returns-in-Some-clause-ends
 returns-in-Some-clause-ends g c = λ none some. c.run_along.ensures.ends none

@@ -1,10 +1,8 @@
-use Rattle.tds_cells.proofs.row_format.RowFormat.run_far_marked.Goals as goal
-use Rattle.tds_cells.proofs.Words as N
-use Rattle.tds_cells.proofs.Words.{◌∙◌, ◌+◌, ◌≤◌, [], length, arith}
-use Rattle.tds_cells.proofs.row_format.RowFormat.run_far_marked.Goals.{then-is_null, else-is_null+in-Some-next}
-use Rattle.tds_cells.proofs.FormatSteps.{written_after}
-use Rattle.tds_cells.proofs.RowFormatRuns.{runs_column, runs_more}
-use Rattle.tds_cells.proofs.RowFormatSteps.{last_one, takes}
+use Rattle.tds_cells.proofs as N
+use N.row_format.RowFormat.run_far_marked.Goals as goal
+use N.{◌∙◌, ◌+◌, ◌≤◌, [], arith}
+use N.row_format.RowFormat.run_far_marked.Goals.{then-is_null, else-is_null+in-Some-next}
+use N.RowFormatRuns.{runs_column, runs_more}
 
 pub loop-used-preserved : goal.loop-used-preserved
 loop-used-preserved c =
@@ -14,7 +12,7 @@ loop-used-preserved c =
       | then-is_null w ↦
           let nulls = w.write_nulls-nulls.result in
           let text = w.write_nulls-nulls.new.to in
-          let within : nulls.made ≤ length text = search arith in
+          let within : nulls.made ≤ N.length text = search arith in
           rw (w.to-is, w.used-is, w.made-is) (record {
             used = l.invariant.used;
             made = search arith;
@@ -37,8 +35,8 @@ loop-used-preserved c =
           let new = far.new.to in
           let cell = w.in-Some-next.ensures.cell in
           let clear = N.sym c.is_null.ensures ∙ w.if-is_null.false in
-          let new_is = written_after l.made l.to new l.invariant.made (search arith) far.ensures.kept in
-          let within : made ≤ length (N.drop l.made new) = omega (arith, cell.0.made, far.auto.to, N.length-drop l.made new) in
+          let new_is = N.FormatSteps.written_after l.made l.to new l.invariant.made (search arith) far.ensures.kept in
+          let within : made ≤ N.length (N.drop l.made new) = omega (arith, cell.0.made, far.auto.to, N.length-drop l.made new) in
           rw (w.to-is, w.used-is, w.made-is) (record {
             used = omega (arith, cell.0.used, l.invariant.used, N.length-drop l.used c.args.bytes.now);
             made = search arith;
@@ -46,8 +44,8 @@ loop-used-preserved c =
             writes = λ columns knows ahead.
                 let ran = l.invariant.writes columns knows ahead in
                 let further = c.pass.ensures.further ∙ N.ap (λ n. l.at.column + n) w.columns-is in
-                let taken = takes (c.in-Some.ensures.next columns knows ran.ahead) further (c.pass.ensures.ahead columns knows ran.ahead) in
-                let last = c.is_last-last.ensures ∙ last_one _ _ _ _ _ knows.counted taken.next in
+                let taken = N.RowFormatSteps.takes (c.in-Some.ensures.next columns knows ran.ahead) further (c.pass.ensures.ahead columns knows ran.ahead) in
+                let last = c.is_last-last.ensures ∙ N.RowFormatSteps.last_one _ _ _ _ _ knows.counted taken.next in
                 let whole = rw last at (rw (N.sym (N.all_after c.args.bytes.now l.used)) at cell.1.whole) in
                 rw new_is (runs_more _ _ _ _ _ _ _ _ _ l.invariant.made within ran (runs_column taken N.refl (rw clear whole)));
           })

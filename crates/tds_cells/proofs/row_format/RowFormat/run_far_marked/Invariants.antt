@@ -1,6 +1,6 @@
-use Rattle.tds_cells.proofs.row_format.RowFormat.run_far_marked.Given as goal
-use Rattle.tds_cells.proofs.Words as N
-use Rattle.tds_cells.proofs.Words.{◌-◌, ◌≤◌, ◌≡◌}
+use Rattle.tds_cells.proofs as N
+use N.row_format.RowFormat.run_far_marked.Given as goal
+use N.{◌-◌, ◌≤◌, ◌≡◌}
 
 abbrev pub invariant-loop-used : goal.invariant-loop-used
 invariant-loop-used l = record {

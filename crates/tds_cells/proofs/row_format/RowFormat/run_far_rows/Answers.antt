@@ -1,8 +1,7 @@
-use Rattle.tds_cells.proofs.row_format.RowFormat.run_far_rows.Goals as goal
-use Rattle.tds_cells.proofs.Words as N
-use Rattle.tds_cells.proofs.Words.{◌≡◌, ◌∙◌, ◌-◌, ap, arith, cell_run, length}
-use Rattle.tds_cells.proofs.RunSteps.{unused}
-use Rattle.tds_cells.proofs.NbcRuns.{nbc_row_last, nbc_row_more, nbc_rows_end}
+use Rattle.tds_cells.proofs as N
+use N.row_format.RowFormat.run_far_rows.Goals as goal
+use N.{◌≡◌, ◌∙◌, ◌-◌, ap, arith}
+use N.RunSteps.{unused}
 
 pub loop-rest-preserved : goal.loop-rest-preserved
 loop-rest-preserved c =
@@ -16,10 +15,10 @@ loop-rest-preserved c =
       rows = λ columns knows.
           let ran = c.run_far_marked-run.ensures.cells columns knows (c.start-at.ensures.ahead columns knows) in
           let end : c.run_far_marked-run.new.at.column ≡ c.args.self.now.count = search arith in
-          let counted : ran.count ≡ length columns = omega (arith, end, ran.further, c.start-at.ensures.first, knows.counted) in
+          let counted : ran.count ≡ N.length columns = omega (arith, end, ran.further, c.start-at.ensures.first, knows.counted) in
           let whole = N.length-take-le c.bitmap_size-size.result (unused l.whole.used c.args.bytes.now) (search arith)
           ∙ c.bitmap_size-size.ensures.value ∙ ap N.bitmap_length (c.count.ensures ∙ knows.counted) in
-          nbc_row_more l.whole.used c.bitmap_size-size.result c.args.bytes.now _ columns l.whole.rows run.used l.whole.made run.made l.to
+          N.NbcRuns.nbc_row_more l.whole.used c.bitmap_size-size.result c.args.bytes.now _ columns l.whole.rows run.used l.whole.made run.made l.to
           c.run_far_marked-run.new.to _
           l.invariant.made (search arith) (search arith) (search arith) whole (l.invariant.rows columns knows)
           (rw (c.start-at.ensures.first, counted) at ran.writes);
@@ -29,8 +28,8 @@ pub returns-then-not-is_end-clause-ends : goal.returns-then-not-is_end-clause-en
 returns-then-not-is_end-clause-ends c =
     let l = c.loop-rest in
     let run = c.run_far_marked-run in
-    rw l.invariant.room at (nbc_rows_end l.whole.used c.bitmap_size-size.result c.args.bytes.now c.args.self.now c.start-at.result l.whole.made
-    l.to run.new.to (cell_run run.result run.new.at) (c.bitmap_size-size.ensures.value ∙ ap N.bitmap_length c.count.ensures)
+    rw l.invariant.room at (N.NbcRuns.nbc_rows_end l.whole.used c.bitmap_size-size.result c.args.bytes.now c.args.self.now c.start-at.result l.whole.made
+    l.to run.new.to (N.cell_run run.result run.new.at) (c.bitmap_size-size.ensures.value ∙ ap N.bitmap_length c.count.ensures)
     c.start-at.ensures.first run.ensures.cells run.ensures.ends (λ is. search arith))
 
 pub returns-then-is_empty-clause-rows : goal.returns-then-is_empty-clause-rows
@@ -39,9 +38,9 @@ returns-then-is_empty-clause-rows c = λ columns knows.
     let run = c.run_far_marked-run.result in
     let ran = c.run_far_marked-run.ensures.cells columns knows (c.start-at.ensures.ahead columns knows) in
     let end : c.run_far_marked-run.new.at.column ≡ c.args.self.now.count = search arith in
-    let counted : ran.count ≡ length columns = omega (arith, end, ran.further, c.start-at.ensures.first, knows.counted) in
+    let counted : ran.count ≡ N.length columns = omega (arith, end, ran.further, c.start-at.ensures.first, knows.counted) in
     let whole = N.length-take-le c.bitmap_size-size.result (unused l.whole.used c.args.bytes.now) (search arith)
     ∙ c.bitmap_size-size.ensures.value ∙ ap N.bitmap_length (c.count.ensures ∙ knows.counted) in
-    nbc_row_last l.whole.used c.bitmap_size-size.result c.args.bytes.now _ columns l.whole.rows run.used l.whole.made run.made l.to
+    N.NbcRuns.nbc_row_last l.whole.used c.bitmap_size-size.result c.args.bytes.now _ columns l.whole.rows run.used l.whole.made run.made l.to
     c.run_far_marked-run.new.to _ l.invariant.made (search arith) whole (l.invariant.rows columns knows)
     (rw (c.start-at.ensures.first, counted) at ran.writes)

@@ -1,9 +1,9 @@
-use Rattle.tds_cells.proofs.row_format.RowFormat.run_fast.Goals as goal
-use Rattle.tds_cells.proofs.RowFormatRuns.{known_ran, rows_begin}
-use Rattle.tds_cells.proofs.Words.{arith, ◌≡◌}
+use Rattle.tds_cells.proofs as N
+use N.row_format.RowFormat.run_fast.Goals as goal
+use N.{arith, ◌≡◌}
 
 pub returns-then-column-ne0-clause-rows : goal.returns-then-column-ne0-clause-rows
-returns-then-column-ne0-clause-rows g c = known_ran (λ walk. rw c.none.ensures rows_begin)
+returns-then-column-ne0-clause-rows g c = N.RowFormatRuns.known_ran (λ walk. rw c.none.ensures N.RowFormatRuns.rows_begin)
 
 pub returns-then-self-clause-rows : goal.returns-then-self-clause-rows
 returns-then-self-clause-rows g c =

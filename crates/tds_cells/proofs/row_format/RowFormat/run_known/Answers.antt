@@ -1,11 +1,8 @@
-use Rattle.tds_cells.proofs.row_format.RowFormat.run_known.Goals as goal
+use Rattle.tds_cells.proofs as N
+use N.row_format.RowFormat.run_known.Goals as goal
+use N.{place, refl, arith, ◌≡◌, ◌∙◌, ◌+◌, ◌-◌, length}
+use N.RowFormatRuns.{known_ran, ran_at, first_left, formats_between, place_known, row_begun, rows_begin, rows_further, rows_kept, rows_more}
 use borrow.Rule.Slice.PartMut.{put_mid, same_len_mid}
-use Rattle.tds_cells.proofs.Words as N
-use Rattle.tds_cells.proofs.Words.{place, refl, arith, ◌≡◌, ◌∙◌, ◌+◌, ◌-◌, length}
-use Rattle.tds_cells.proofs.RunSteps.{made_same}
-use Rattle.tds_cells.proofs.RowFormatRuns.{known_ran, ran_at, first_left, formats_between, place_known, row_begun, rows_begin, rows_further, rows_kept}
-use Rattle.tds_cells.proofs.RowFormatRuns.{rows_more}
-use Rattle.tds_cells.proofs.RowFormatSteps.{none_next}
 
 pub loop-formats-init : goal.loop-formats-init
 loop-formats-init g c = known_ran (λ walk. rows_begin)
@@ -35,7 +32,7 @@ loop-formats-preserved g c =
 
 pub returns-then-not-row_follows-clause-ends : goal.returns-then-not-row_follows-clause-ends
 returns-then-not-row_follows-clause-ends g c = λ walk columns column left knows ahead step. absurd (let e = N.sym step
-    ∙ none_next _ _ knows.counted (c.in_default.ensures.end refl) in omega (arith, N.ap length e))
+    ∙ N.RowFormatSteps.none_next _ _ knows.counted (c.in_default.ensures.end refl) in omega (arith, N.ap length e))
 
 pub returns-then-run-eq0-clause-ends : goal.returns-then-run-eq0-clause-ends
 returns-then-run-eq0-clause-ends g c = λ walk columns column left knows ahead step.
@@ -63,7 +60,7 @@ returns-then-run-eq0-clause-rows g c =
     let mid = put_mid l.made _ l.to fast.new.to in
     known_ran (λ walk.
     let ran = rows_further fast.new.to _ (ran_at l.invariant walk) (ran_at fast.ensures.rows walk) in
-    rows_kept (same_len_mid made _ mid _ (search arith)) (made_same made mid _ ran.made) ran)
+    rows_kept (same_len_mid made _ mid _ (search arith)) (N.RunSteps.made_same made mid _ ran.made) ran)
 
 pub run_formats-run-requires : goal.run_formats-run-requires
 run_formats-run-requires g c = (c.in-Some.ensures.ahead c.args.self.now.rest).laid

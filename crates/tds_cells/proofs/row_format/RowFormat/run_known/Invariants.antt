@@ -1,9 +1,10 @@
-use Rattle.tds_cells.proofs.row_format.RowFormat.run_known.Given as goal
-use Rattle.tds_cells.proofs.Words.{◌-◌, length, KnownRan}
+use Rattle.tds_cells.proofs as N
+use N.row_format.RowFormat.run_known.Given as goal
+use N.{◌-◌}
 
 abbrev pub invariant-loop-formats : goal.invariant-loop-formats
-invariant-loop-formats g l = KnownRan l.fn.self l.fn.from l.fn.bytes l.to
+invariant-loop-formats g l = N.KnownRan l.fn.self l.fn.from l.fn.bytes l.to
     (record { used = l.used; made = l.made; rows = l.rows; column = l.column })
 
 abbrev pub decreases-loop-formats : goal.decreases-loop-formats
-decreases-loop-formats g l = length l.fn.bytes - l.used
+decreases-loop-formats g l = N.length l.fn.bytes - l.used

@@ -1,8 +1,7 @@
-use Rattle.tds_cells.proofs.row_format.RowFormat.run_marked.Goals as goal
-use Rattle.tds_cells.proofs.Words as N
-use Rattle.tds_cells.proofs.Words.{◌≡◌, ◌∙◌, ◌-◌, ◌<◌, ◌≤◌, [], ap, length, arith}
-use Rattle.tds_cells.proofs.RowFormatRuns.{ends_clear, runs_clear, runs_more}
-use Rattle.tds_cells.proofs.RowFormatSteps.{none_next}
+use Rattle.tds_cells.proofs as N
+use N.row_format.RowFormat.run_marked.Goals as goal
+use N.{◌≡◌, ◌∙◌, ◌-◌, ◌<◌, ◌≤◌, [], length, arith}
+use N.RowFormatRuns.{ends_clear, runs_clear, runs_more}
 
 -- columns that are NULL by their bit
 pub loop-to-preserved-then-end-at : goal.loop-to-preserved-then-end-at
@@ -62,8 +61,8 @@ returns-else-at-count-clause-ends g c = record {
   used = c.loop-to.invariant.used;
   made = omega arith;
   left = λ columns column left knows ahead step. absurd
-      (let none = none_next _ _ knows.counted (omega arith) in
-      let e = N.sym step ∙ none in omega (arith, ap length e));
+      (let none = N.RowFormatSteps.none_next _ _ knows.counted (omega arith) in
+      let e = N.sym step ∙ none in omega (arith, N.ap length e));
 }
 
 pub returns-then-cells-eq0-clause-ends : goal.returns-then-cells-eq0-clause-ends

@@ -1,6 +1,6 @@
-use Rattle.tds_cells.proofs.row_format.RowFormat.run_marked.Given as goal
-use Rattle.tds_cells.proofs.Words as N
-use Rattle.tds_cells.proofs.Words.{◌-◌, ◌≤◌}
+use Rattle.tds_cells.proofs as N
+use N.row_format.RowFormat.run_marked.Given as goal
+use N.{◌-◌, ◌≤◌}
 
 abbrev pub invariant-loop-to : goal.invariant-loop-to
 invariant-loop-to g l = record {

@@ -1,14 +1,14 @@
-use Rattle.tds_cells.proofs.row_format.RowFormat.run_numbers.Goals as goal
-use Rattle.tds_cells.proofs.Words as N
-use Rattle.tds_cells.proofs.Words.{place, inl, ap, refl, inr, arith, sym, ◌∙◌, ◌≡◌, ◌+◌, ◌-◌, ◌<◌, ℕ, length, drop}
-use Rattle.tds_cells.proofs.FarRuns.{row_length}
-use Rattle.tds_cells.proofs.RowFormatRuns.{known_ran, place_known, ran_at, row_begun, row_far, rows_begin, rows_kept}
+use Rattle.tds_cells.proofs as N
+use N.row_format.RowFormat.run_numbers.Goals as goal
+use N.{arith, ◌∙◌, ◌≡◌, ◌+◌, ◌-◌, ◌<◌, ℕ}
+use N.FarRuns.{row_length}
+use N.RowFormatRuns.{known_ran, place_known, ran_at, row_begun, row_far, rows_begin, rows_kept}
 
 pub returns-in_default-clause-rows : goal.returns-in_default-clause-rows
 returns-in_default-clause-rows g c = known_ran (λ walk. rw c.none.ensures rows_begin)
 
 pub loop-used-init : goal.loop-used-init
-loop-used-init g c = record { same = refl; ran = known_ran (λ walk. rows_begin) }
+loop-used-init g c = record { same = N.refl; ran = known_ran (λ walk. rows_begin) }
 
 pub loop-used-preserved : goal.loop-used-preserved
 loop-used-preserved g c =
@@ -20,10 +20,10 @@ loop-used-preserved g c =
     let whole : run.cells ≡ row_format.count = row.whole ∙ row_length row_format c.row-row.result.now known.0 c.row-row.ensures.row in
     record {
       same = search arith;
-      ran = known_ran (λ walk. row_begun {start = place walk 0} known.1 (omega arith) (c.begins_row.ensures.begins (search N.rules), refl)
-          (place_known row_format (place walk 0) row_format.count 0 known.0 (omega arith) (omega arith))
-          (row_far row_format c.row-row.result.now run c.run_row.new.to known.0 known.1 c.row-row.ensures.row whole c.run_row.ensures.kept (search (arith, N.rules))
-          row.begun (row.row row_format.charset) (ran_at l.invariant.ran walk)));
+      ran = known_ran (λ walk. row_begun {start = N.place walk 0} known.1 (omega arith) (c.begins_row.ensures.begins (search N.rules), N.refl)
+          (place_known row_format (N.place walk 0) row_format.count 0 known.0 (omega arith) (omega arith))
+          (row_far row_format c.row-row.result.now run c.run_row.new.to known.0 known.1 c.row-row.ensures.row whole c.run_row.ensures.kept
+          (search (arith, N.rules)) row.begun (row.row row_format.charset) (ran_at l.invariant.ran walk)));
     }
 
 pub returns-in_default-run_row-clause-rows : goal.returns-in_default-run_row-clause-rows
@@ -38,7 +38,7 @@ returns-then-not-begins_row-clause-rows g c =
     let known = c.requires.known in
     let run = c.in-Some-run_row.run' in
     let row = c.in-Some-run_row.ensures.row in
-    let all : length c.row-row.result.now ≡ row_format.count = row_length row_format c.row-row.result.now known.0 c.row-row.ensures.row in
+    let all : N.length c.row-row.result.now ≡ row_format.count = row_length row_format c.row-row.result.now known.0 c.row-row.ensures.row in
     let whole : run.cells ≡ row_format.count = row.whole ∙ all in
     rw (c.ended.ensures, all) (known_ran (λ walk.
     row_far row_format c.row-row.result.now run c.run_row.new.to known.0 known.1 c.row-row.ensures.row whole c.run_row.ensures.kept

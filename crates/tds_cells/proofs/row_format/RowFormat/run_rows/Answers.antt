@@ -1,6 +1,7 @@
-use Rattle.tds_cells.proofs.row_format.RowFormat.run_rows.Goals as goal
-use Rattle.tds_cells.proofs.row_format.RowFormat.run_rows.Goals.{then-self, else-self}
-use Rattle.tds_cells.proofs.RowFormatRuns.{ran_at}
+use Rattle.tds_cells.proofs as N
+use N.row_format.RowFormat.run_rows.Goals as goal
+use N.row_format.RowFormat.run_rows.Goals.{then-self, else-self}
+use N.RowFormatRuns.{ran_at}
 
 pub returns-clause-ends : goal.returns-clause-ends
 returns-clause-ends c = elim c.if-self.branch [

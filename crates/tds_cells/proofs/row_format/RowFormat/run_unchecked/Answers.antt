@@ -1,18 +1,14 @@
-use Rattle.tds_cells.proofs.row_format.RowFormat.run_unchecked.Goals as goal
-use Rattle.tds_cells.proofs.Words as N
-use Rattle.tds_cells.proofs.Words.{place, arith, ◌∙◌, ◌≡◌, ◌==◌, ◌+◌, ◌-◌, ◌≤◌, ◌<◌, ◌++◌, ◌∷◌, []}
-use Rattle.tds_cells.proofs.Words.{ap, inl, inr, length, length-drop, refl, rules, sym, take, drop, get_or, end_after, false, true, List, ℕ}
-use Rattle.tds_cells.proofs.row_format.RowFormat.run_unchecked.Goals.{then-cells-formats-via-then-cells-formats}
-use Rattle.tds_cells.proofs.row_format.RowFormat.run_unchecked.Goals.{then-cells-formats-via-else-cells-formats+then-bytes-lt-LOOKAHEAD}
-use Rattle.tds_cells.proofs.row_format.RowFormat.run_unchecked.Goals.{then-cells-formats-via-else-cells-formats+else-bytes-lt-LOOKAHEAD+then-to-lt-CELL_ROOM}
-use Rattle.tds_cells.proofs.row_format.RowFormat.run_unchecked.Goals.{then-loop-rest-test+else-made-most, else-loop-rest-test}
-use Rattle.tds_cells.proofs.row_format.RowFormat.run_unchecked.Goals.{then-loop-rest-test+then-made-most+in_default as cell_left}
-use Rattle.tds_cells.proofs.FarRuns.{begins_in, begins_some, comma_made, comma_most, comma_one, far_left, rest_more, row_length}
-use Rattle.tds_cells.proofs.FormatSteps.{left_after}
-use Rattle.tds_cells.proofs.RowFormatRuns.{known_ran, ran_at, first_left, place_known, rest_ahead, row_begun, rows_begin, rows_kept}
-use Rattle.tds_cells.proofs.RowFormatSteps.{none_next}
-use Rattle.tds_cells.proofs.RowTexts.{after_some_column}
-use Rattle.tds_cells.proofs.RunSteps.{unused}
+use Rattle.tds_cells.proofs as N
+use N.row_format.RowFormat.run_unchecked.Goals as goal
+use N.{place, arith, ◌∙◌, ◌≡◌, ◌==◌, ◌+◌, ◌-◌, ◌≤◌, ◌<◌, ◌++◌, ◌∷◌, [], ap, inl, inr, length, rules, sym, take, drop, get_or, true, List, ℕ}
+use N.row_format.RowFormat.run_unchecked.Goals.{then-cells-formats-via-then-cells-formats, then-cells-formats-via-else-cells-formats+then-bytes-lt-LOOKAHEAD}
+use N.row_format.RowFormat.run_unchecked.Goals.{then-cells-formats-via-else-cells-formats+else-bytes-lt-LOOKAHEAD+then-to-lt-CELL_ROOM}
+use N.row_format.RowFormat.run_unchecked.Goals.{then-loop-rest-test+else-made-most, else-loop-rest-test}
+use N.row_format.RowFormat.run_unchecked.Goals.{then-loop-rest-test+then-made-most+in_default as cell_left}
+use N.FarRuns.{begins_in, begins_some, comma_made, comma_most, comma_one, far_left, rest_more, row_length}
+use N.FormatSteps.{left_after}
+use N.RowFormatRuns.{known_ran, ran_at, first_left, place_known, rest_ahead, row_begun, rows_begin, rows_kept}
+use N.RunSteps.{unused}
 use Rattle.std.proofs.lemmas.List.{take-set-le}
 use Rattle.tds_cells.specs.Runs.{comma_size}
 
@@ -25,7 +21,7 @@ returns-then-cells-formats-clause-ends c =
     let row = row_length row_format c.row-formats.result.now c.requires.known.0 c.row-formats.ensures.row in
     λ walk. rw c.none.ensures (elim c.then-cells-formats.branch [
       | then-cells-formats-via-then-cells-formats w ↦ inr (inr (λ columns column left knows ahead step. absurd (let e = sym step
-          ∙ none_next _ _ knows.counted (omega (arith, w.if-cells-formats.true, row)) in
+          ∙ N.RowFormatSteps.none_next _ _ knows.counted (omega (arith, w.if-cells-formats.true, row)) in
           omega (arith, ap length e))))
       | then-cells-formats-via-else-cells-formats+then-bytes-lt-LOOKAHEAD w ↦ inl w.if-bytes-lt-LOOKAHEAD.true
       | then-cells-formats-via-else-cells-formats+else-bytes-lt-LOOKAHEAD+then-to-lt-CELL_ROOM w ↦ inr (inl (omega (arith, w.if-to-lt-CELL_ROOM.true)))
@@ -76,8 +72,8 @@ loop-rest-preserved-then-cells-formats-2 c =
       some = few;
       begun = omega (arith, comma_one l.cells);
       comma = rw there (N.take_more_set new end 44 room ∙ ap (λ t. t ++ 44 ∷ []) (sym same)
-          ∙ ap (λ t. take end (N.slice_set new end 44) ++ t) (after_some_column (l.cells + 1) (λ e. omega arith)));
-      ran = rw there (known_ran (λ walk. rest_more l.rest.now l.cells written.used l.made written.made end _ format new (N.slice_set new end 44) false
+          ∙ ap (λ t. take end (N.slice_set new end 44) ++ t) (N.RowTexts.after_some_column (l.cells + 1) (λ e. omega arith)));
+      ran = rw there (known_ran (λ walk. rest_more l.rest.now l.cells written.used l.made written.made end _ format new (N.slice_set new end 44) N.false
           l.invariant.within l.invariant.rest left.0 all l.invariant.some c.row-formats.ensures.row (sym (N.ne_eqb _ _ (λ e. omega (arith, e, few)))) format_is
           (l.invariant.begun, (omega (arith, room, size), omega (arith, c.in-Some.ensures.cell.0.used)))
           l.invariant.comma c.write_far_cell.ensures.kept
@@ -104,7 +100,7 @@ returns-then-not-row_follows-clause-rows c =
     let left = left_after bytes l.rest.now written.used l.invariant.within l.invariant.rest (omega (arith, c.in-Some.ensures.cell.0.used)) in
     let at = l.made + written.made in
     let before : (at + 1) - 1 ≡ at = omega arith in
-    let text = rw before at end.ensures.text ∙ ap (λ (t : List ℕ). t ++ end_after true) (take-set-le at new at 44 (omega arith)) in
+    let text = rw before at end.ensures.text ∙ ap (λ (t : List ℕ). t ++ N.end_after true) (take-set-le at new at 44 (omega arith)) in
     rw c.ended.ensures (known_ran (λ walk. rest_more l.rest.now l.cells written.used l.made written.made end.result _ format new end.new.to true
     l.invariant.within l.invariant.rest left.0 all l.invariant.some c.row-formats.ensures.row (sym (N.eq-eqb _ _ last)) format_is
     (l.invariant.begun, (omega (arith, c.in-Some.ensures.cell.0.made, size), omega (arith, c.in-Some.ensures.cell.0.used)))
@@ -130,7 +126,7 @@ loop-rest-preserved c =
     let left = left_after bytes l.rest.now written.used l.invariant.within l.invariant.rest (omega (arith, c.in-Some.ensures.cell.0.used)) in
     let at = l.made + written.made in
     let before : (at + 1) - 1 ≡ at = omega arith in
-    let text = rw before at end.ensures.text ∙ ap (λ (t : List ℕ). t ++ end_after true) (take-set-le at new at 44 (omega arith)) in
+    let text = rw before at end.ensures.text ∙ ap (λ (t : List ℕ). t ++ N.end_after true) (take-set-le at new at 44 (omega arith)) in
     let none : end.result - comma_size 0 ≡ end.result = omega arith in
     let begins = c.row_follows.ensures.begins (search rules) in
     let next = left_after bytes (unused written.used l.rest.now) 1 (omega (arith, left.0)) (left.1 ∙ ap (λ (n : ℕ). drop n bytes) (sym left.0))
@@ -143,10 +139,10 @@ loop-rest-preserved c =
       begun = omega arith;
       comma = rw none (sym (N.append-nil (take end.result end.new.to)));
       ran = rw (none, next.0, left.0) (known_ran (λ walk. row_begun {start = place walk 0} c.requires.known.1 (omega (arith, last))
-          (begins_in bytes l.rest.now written.used _ left.1 begins, refl)
+          (begins_in bytes l.rest.now written.used _ left.1 begins, N.refl)
           (place_known row_format (place walk 0) (l.cells + 1) 0 all (omega (arith, last)) (omega arith))
           (rest_more l.rest.now l.cells written.used l.made written.made end.result _ format new end.new.to true
-          l.invariant.within l.invariant.rest refl all l.invariant.some c.row-formats.ensures.row (sym (N.eq-eqb _ _ last)) format_is
+          l.invariant.within l.invariant.rest N.refl all l.invariant.some c.row-formats.ensures.row (sym (N.eq-eqb _ _ last)) format_is
           (l.invariant.begun, (omega (arith, c.in-Some.ensures.cell.0.made, size), omega (arith, c.in-Some.ensures.cell.0.used)))
           l.invariant.comma c.write_far_cell.ensures.kept (omega (arith, c.in-Some.ensures.cell.0.made), fits) text
           c.in-Some.ensures.cell.0.whole c.in-Some.ensures.cell.1 (ran_at l.invariant.ran walk))));
@@ -171,7 +167,7 @@ returns-clause-ends c =
     let formats = c.row-formats.result.now in
     let bytes = c.args.bytes.now in
     λ walk. rw (c.ended-2.ensures, c.comma_size.ensures) (elim c.loop-rest-test.branch [
-      | else-loop-rest-test w ↦ inl (omega (arith, w.loop-rest-test.false, l.invariant.within, length-drop (length bytes - length l.rest.now) bytes))
+      | else-loop-rest-test w ↦ inl (omega (arith, w.loop-rest-test.false, l.invariant.within, N.length-drop (length bytes - length l.rest.now) bytes))
       | then-loop-rest-test+else-made-most w ↦ inr (inl (omega (arith, w.if-made-most.false, l.invariant.size, l.invariant.begun, comma_most l.cells)))
       | cell_left w ↦ inr (inr (λ columns column left knows ahead step.
           let format = w.index-formats-cells.result in

@@ -1,6 +1,7 @@
-use Rattle.tds_cells.proofs.run.formats.run_formats.Goals as goal
-use Rattle.tds_cells.proofs.Words.{◌∙◌, ◌-◌, ◌++◌, ap, take, arith, rules, end_after, length, length-append, length-take-le}
-use Rattle.tds_cells.proofs.FormatSteps.{fields_run, first_less}
+use Rattle.tds_cells.proofs as N
+use N.run.formats.run_formats.Goals as goal
+use N.{◌∙◌, ◌-◌, ◌++◌, ap, arith, rules}
+use N.FormatSteps.{fields_run, first_less}
 
 pub returns-then-run-eq0-clause-run : goal.returns-then-run-eq0-clause-run
 returns-then-run-eq0-clause-run c = record {
@@ -14,7 +15,7 @@ pub returns-clause-run : goal.returns-clause-run
 returns-clause-run c =
     let run = c.write_fields-run in
     fields_run _ _ _ (omega (arith, c.if-run-eq0.false)) run.ensures.fields (search (arith, rules))
-    (c.write_line_end-made.ensures.text ∙ ap (λ v. take (run.result.made - 1) run.new.to ++ end_after v) c.is_last-last.ensures)
+    (c.write_line_end-made.ensures.text ∙ ap (λ v. N.take (run.result.made - 1) run.new.to ++ N.end_after v) c.is_last-last.ensures)
 
 pub returns-then-run-eq0-clause-left : goal.returns-then-run-eq0-clause-left
 returns-then-run-eq0-clause-left c = first_less _ _ _ (omega arith) (c.write_fields-run.ensures.ends c.if-run-eq0.true)
@@ -24,8 +25,8 @@ returns-clause-left c =
     let run = c.write_fields-run in
     let end = c.write_line_end-made in
     let room = run.ensures.fields.room (omega (arith, c.if-run-eq0.false)) in
-    let before = length-take-le (run.result.made - 1) run.new.to (omega (arith, room)) in
-    let after = length-take-le end.result end.new.to (search (arith, rules)) in
-    let further = ap length end.ensures.text ∙ length-append (take (run.result.made - 1) run.new.to) (end_after c.is_last-last.result) in
+    let before = N.length-take-le (run.result.made - 1) run.new.to (omega (arith, room)) in
+    let after = N.length-take-le end.result end.new.to (search (arith, rules)) in
+    let further = ap N.length end.ensures.text ∙ N.length-append (N.take (run.result.made - 1) run.new.to) (N.end_after c.is_last-last.result) in
     let left = run.ensures.left in
     first_less _ _ _ (omega (arith, room, before, after, further)) left

@@ -1,9 +1,9 @@
-use Rattle.tds_cells.proofs.run.formats.write_fields.Goals as goal
-use Rattle.tds_cells.proofs.run.formats.write_fields.Goals.{then-loop-cells-test+else-made-most, else-loop-cells-test}
-use Rattle.tds_cells.proofs.run.formats.write_fields.Goals.{then-loop-cells-test+then-made-most+in_default as left}
+use Rattle.tds_cells.proofs as N
+use N.run.formats.write_fields.Goals as goal
+use N.{◌≡◌, ◌∙◌, ◌+◌, ◌-◌, ℕ, length, get_or, ap, sym, arith, rules}
+use N.run.formats.write_fields.Goals.{then-loop-cells-test+else-made-most, else-loop-cells-test, then-loop-cells-test+then-made-most+in_default as left}
+use N.FormatSteps.{fields_more, fields_step, left_after, left_less}
 use Rattle.std.proofs.lemmas.List.{get_or-drop}
-use Rattle.tds_cells.proofs.Words.{inl, inr, ◌≡◌, ◌∙◌, ◌+◌, ◌-◌, ℕ, length, length-drop, drop, get_or, all_after, ap, sym, arith, rules}
-use Rattle.tds_cells.proofs.FormatSteps.{fields_more, fields_step, left_after, left_less}
 
 pub loop-cells-preserved : goal.loop-cells-preserved
 loop-cells-preserved c =
@@ -14,13 +14,13 @@ loop-cells-preserved c =
     let bytes = c.args.bytes.now in
     let rest = l.rest.now in
     let format_is : format ≡ get_or formats l.cells format = search (arith, rules) in
-    let now = all_after bytes (length bytes - length rest) ∙ sym l.invariant.rest in
+    let now = N.all_after bytes (length bytes - length rest) ∙ sym l.invariant.rest in
     let whole = rw format_is at (rw (sym now) at c.in-Some.ensures.cell.0.whole) in
     let wrote = rw format_is at (rw (sym now) at c.in-Some.ensures.cell.1) in
     let left = left_after bytes rest written.used l.invariant.within l.invariant.rest (search (arith, rules)) in
     record {
       within = omega (arith, left.0);
-      rest = left.1 ∙ ap (λ (n : ℕ). drop n bytes) (sym left.0);
+      rest = left.1 ∙ ap (λ (n : ℕ). N.drop n bytes) (sym left.0);
       at = fields_step written.used written.made format l.invariant.at left.0 (search (arith, rules)) c.loop-cells-test.true (search (arith, rules))
           (search (arith, rules)) whole;
       writes = fields_more c.args.charset formats c.args.column bytes l.to c.write_cell.new.to _ l.cells _ written.used _ l.made
@@ -34,20 +34,20 @@ returns-clause-ends c = λ none format rest is. elim c.loop-cells-test.branch [
   | left w ↦ (let l = c.loop-cells in
       let bytes = c.args.bytes.now in
       let begun = l.invariant.at.begun none in
-      let all : l.rest.now ≡ bytes = l.invariant.rest ∙ ap (λ (n : ℕ). drop n bytes) begun.0 in
+      let all : l.rest.now ≡ bytes = l.invariant.rest ∙ ap (λ (n : ℕ). N.drop n bytes) begun.0 in
       let first : w.index-formats-cells.result ≡ format = grind arith in
-      inr (left_less c.args.charset format.kind bytes (grind arith) (rw first at (rw all at w.in_default.ensures.cell))))
+      N.inr (left_less c.args.charset format.kind bytes (grind arith) (rw first at (rw all at w.in_default.ensures.cell))))
 ]
 
 pub returns-clause-left : goal.returns-clause-left
 returns-clause-left c = λ format rest is. elim c.loop-cells-test.branch [
-  | then-loop-cells-test+else-made-most w ↦ inl (search (arith, rules))
-  | else-loop-cells-test w ↦ absurd (omega (arith, ap length is, length-drop c.loop-cells.cells c.args.formats.now, w))
+  | then-loop-cells-test+else-made-most w ↦ N.inl (search (arith, rules))
+  | else-loop-cells-test w ↦ absurd (omega (arith, ap length is, N.length-drop c.loop-cells.cells c.args.formats.now, w))
   | left w ↦ (let l = c.loop-cells in
       let formats = c.args.formats.now in
       let taken = w.index-formats-cells.result in
       let here : taken ≡ get_or formats l.cells taken = search (arith, rules) in
       let place : l.cells ≡ l.cells + 0 = omega arith in
       let first = here ∙ ap (λ (n : ℕ). get_or formats n taken) place ∙ sym (get_or-drop l.cells formats 0 taken) ∙ ap (λ f. get_or f 0 taken) is in
-      inr (left_less c.args.charset format.kind _ (search (arith, rules)) (rw first at (rw l.invariant.rest at w.in_default.ensures.cell))))
+      N.inr (left_less c.args.charset format.kind _ (search (arith, rules)) (rw first at (rw l.invariant.rest at w.in_default.ensures.cell))))
 ]

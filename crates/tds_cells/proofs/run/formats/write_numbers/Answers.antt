@@ -1,10 +1,8 @@
-use Rattle.tds_cells.proofs.run.formats.write_numbers.Goals as goal
+use Rattle.tds_cells.proofs as N
+use N.run.formats.write_numbers.Goals as goal
+use N.{◌≡◌, ◌∙◌, ◌+◌, ◌-◌, ◌≤◌, [], ℕ, length, length-drop, drop, get_or, refl, arith, rules}
+use N.FormatSteps.{fields_end, fields_more, set_beyond}
 use borrow.Rule.Slice.PartMut.{put_mid, same_len_mid}
-use Rattle.tds_cells.proofs.Words.{◌≡◌, ◌∙◌, ◌+◌, ◌-◌, ◌≤◌, [], ℕ, ap, length, length-drop}
-use Rattle.tds_cells.proofs.Words.{take, drop, drop-drop, get_or, get_or_default, refl, sym, arith, rules, all_after}
-use Rattle.tds_cells.proofs.ValueCells.{int4_scalar}
-use Rattle.tds_cells.proofs.FormatSteps.{bytes_step, fields_end, fields_more, fields_step, kept_before, room_step, same_beyond, set_beyond, unused_from}
-use Rattle.tds_cells.proofs.RunSteps.{made_same, scalar_left}
 use Rattle.tds_values.specs.declared.charset.Charset.TheVariants.{Windows1252}
 
 pub loop-cells-init : goal.loop-cells-init
@@ -34,7 +32,7 @@ loop-cells-preserved g c =
     let format_is : format ≡ get_or formats l.cells format = search (arith, rules) in
     let bytes = drop from c.args.bytes.now in
     let left = c.loop-cells-test.true in
-    let rest = unused_from from l.used c.args.bytes.now l.invariant.from in
+    let rest = N.FormatSteps.unused_from from l.used c.args.bytes.now l.invariant.from in
     let whole = rw format_is at (rw rest at (c.in-Some.ensures.cell Windows1252).0.whole) in
     let further : (l.used + written.used) - from ≡ (l.used - from) + written.used = omega (arith, l.invariant.from) in
     let more : (l.made + written.made + 1) - at ≡ (l.made - at) + written.made + 1 = omega (arith, l.invariant.begun) in
@@ -47,13 +45,13 @@ loop-cells-preserved g c =
       from = omega (arith, l.invariant.from);
       begun = omega (arith, l.invariant.begun);
       size = search (arith, rules);
-      kept = kept_before at l.made written.made l.to _ l.invariant.begun within ∙ l.invariant.kept;
-      at = rw more (fields_step written.used written.made format l.invariant.at further (search (arith, rules)) left few
+      kept = N.FormatSteps.kept_before at l.made written.made l.to _ l.invariant.begun within ∙ l.invariant.kept;
+      at = rw more (N.FormatSteps.fields_step written.used written.made format l.invariant.at further (search (arith, rules)) left few
           (omega (arith, c.in-Some.ensures.most.1, l.invariant.fits, l.invariant.begun, left)) whole);
-      whole = bytes_step _ _ _ _ _ left c.in-Some.ensures.most.0 l.invariant.whole;
-      fits = room_step _ _ _ _ _ _ (search (arith, rules)) left c.in-Some.ensures.most.1 l.invariant.fits;
+      whole = N.FormatSteps.bytes_step _ _ _ _ _ left c.in-Some.ensures.most.0 l.invariant.whole;
+      fits = N.FormatSteps.room_step _ _ _ _ _ _ (search (arith, rules)) left c.in-Some.ensures.most.1 l.invariant.fits;
       writes = λ charset. rw (more, set_beyond at l.made written.made l.to _ l.invariant.begun within) (fields_more charset formats 0 bytes (drop at l.to) new _
-          l.cells _ written.used _ _ written.made format further (rw (sym (length-drop at l.to)) at l.invariant.at.fits)
+          l.cells _ written.used _ _ written.made format further (rw (N.sym (length-drop at l.to)) at l.invariant.at.fits)
           (omega (arith, c.in-Some.ensures.most.1, size, l.invariant.fits, left)) left (rw format_is at (rw rest at (c.in-Some.ensures.cell charset).1))
           (l.invariant.writes charset));
     }
@@ -66,13 +64,13 @@ returns-in_default-clause-ends g c = λ few format.
     let bytes = c.args.bytes.now in
     let d = c.index-formats-cells.result in
     let is : d ≡ get_or formats l.cells d = search (arith, rules) in
-    let there = is ∙ get_or_default formats l.cells d format c.loop-cells-test.true in
-    let number = int4_scalar _ (c.requires.numbers.numbers l.cells format c.loop-cells-test.true) in
+    let there = is ∙ N.get_or_default formats l.cells d format c.loop-cells-test.true in
+    let number = N.ValueCells.int4_scalar _ (c.requires.numbers.numbers l.cells format c.loop-cells-test.true) in
     let split : from + (l.used - from) ≡ l.used = omega (arith, l.invariant.from) in
-    let same : drop (l.used - from) (drop from bytes) ≡ drop l.used bytes = drop-drop (l.used - from) from bytes ∙ ap (λ (n : ℕ). drop n bytes) split in
-    rw same (scalar_left Windows1252 (get_or formats l.cells format).kind (drop l.used bytes) (length (take (length l.to - l.made)
+    let same : drop (l.used - from) (drop from bytes) ≡ drop l.used bytes = N.drop-drop (l.used - from) from bytes ∙ N.ap (λ (n : ℕ). drop n bytes) split in
+    rw same (N.RunSteps.scalar_left Windows1252 (get_or formats l.cells format).kind (drop l.used bytes) (length (N.take (length l.to - l.made)
     (drop l.made l.to)) + 1) number
-    (rw (all_after bytes l.used) at (rw there at (c.in_default.ensures.cell Windows1252))))
+    (rw (N.all_after bytes l.used) at (rw there at (c.in_default.ensures.cell Windows1252))))
 
 pub returns-in_default-clause-fields : goal.returns-in_default-clause-fields
 returns-in_default-clause-fields g c = λ charset.
@@ -82,5 +80,5 @@ returns-in_default-clause-fields g c = λ charset.
     let new = c.write_int4_cell.new.to in
     let mid = put_mid l.made (length l.to - l.made) l.to new in
     let same : length mid ≡ length l.to = same_len_mid l.made (length l.to - l.made) l.to new (search arith) in
-    fields_end (drop at l.to) (drop at mid) (rw (sym (length-drop at l.to)) at l.invariant.at) (omega (arith, same, length-drop at mid, length-drop at l.to))
-    (same_beyond at l.made l.to _ l.invariant.begun (made_same l.made l.to _ within)) (l.invariant.writes charset)
+    fields_end (drop at l.to) (drop at mid) (rw (N.sym (length-drop at l.to)) at l.invariant.at) (omega (arith, same, length-drop at mid, length-drop at l.to))
+    (N.FormatSteps.same_beyond at l.made l.to _ l.invariant.begun (N.RunSteps.made_same l.made l.to _ within)) (l.invariant.writes charset)
