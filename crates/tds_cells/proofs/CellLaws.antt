@@ -48,7 +48,6 @@ module _ (column : ℕ) where
   short_length : (c : Conversion) (n : ℕ) → n < 65535 → n % unit c ≡ 0
       → Spelt (cell column) (N.ShortLength c) (n % 256 ∷ n / 256 ∷ []) (if n == 0 then WholeCell (DataCell c []) else N.ShortData c (n - 1) [])
   short_length c n less even =
-      let l = N.little-two n in
       Spelt-step _ _ _ _ (omega arith) refl (grind arith)
       (grind arith)
 
@@ -113,7 +112,7 @@ module _ (column : ℕ) where
           → N.is_total t (length d) ≡ true → Spelt (cell column) (Total c) (s.total ++ s.rest) (WholeCell (DataCell c d))
       from t known less even within whole =
           let more = rw s.all at (chunks_cell c t [] s.chunks s.rest (rw s.all within) (rw s.all whole) (rw s.all f) s.each) in
-          Spelt-append _ _ s.total _ s.rest _ (rw known at (total_cell c s.total s.eight less even)) more
+          Spelt-append _ _ s.total _ s.rest _ (grind (arith, total_cell)) more
 
       go : (little s.total ≡ N.unknown_total) ⊎ ((little s.total ≡ length d) × (length d < N.unknown_total))
           → Spelt (cell column) (Total c) (s.total ++ s.rest) (WholeCell (DataCell c d))

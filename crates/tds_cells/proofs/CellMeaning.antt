@@ -99,21 +99,7 @@ module _ (column : ℕ) (kind : Kind) where
       N.choose (λ p. CellMeans kind (LongShape c Chunked) p (b ++ e)) _ _ _ (λ z.
       let end = N.sym (ap (λ t. (if t then N.end_of_chunks column c total d else N.unless (N.within_total total (length d + little e)) (N.PlpLength column))) z)
       ∙ free in
-      let e0 : e ≡ 0 ∷ 0 ∷ 0 ∷ 0 ∷ [] = grind (arith, N.common_steps) in (
-        refl,
-        unless_none _ _ (guard_none _ (guard_none _ end).1).1,
-        record {
-          total = m.first;
-          rest = m.rest ++ e;
-          chunks = m.chunks;
-          spelt = ap (λ v. v ++ e) m.spelt
-              ∙ append_assoc m.first m.rest e;
-          eight = m.eight;
-          known = grind arith;
-          each = rw e0 (end_chunks _ _ m.begun);
-          all = m.all;
-        },
-      ))
+      let e0 : e ≡ 0 ∷ 0 ∷ 0 ∷ 0 ∷ [] = grind (arith, N.common_steps) in (grind (arith, unless_none, guard_none, append_assoc, end_chunks)))
       (λ z.
       let some = N.eq_false _ 0 z in (
         refl,
@@ -169,5 +155,5 @@ start_means _ _ = grind arith
 pub cell_is_spelt : {x : N.Cell} {bytes : List ℕ} {column : ℕ} (kind : Kind) (sh : Shape) → AreBytes bytes
     → N.Spelt (N.cell column) (N.cell_start kind sh) bytes (N.WholeCell x) → N.SpellsCell kind sh x bytes
 cell_is_spelt kind sh are h = N.Spelt-induct _ (λ p b. AreBytes b
-    → CellMeans kind sh p b) (λ p b e m n all. cell_step _ _ _ p b e (N.AreBytes-back b e all) (m (N.AreBytes-front b e all)) n) _ (λ _. start_means _ _)
+    → CellMeans kind sh p b) (grind (arith, cell_step, N.AreBytes-back, N.AreBytes-front)) _ (λ _. start_means _ _)
     _ _ h are

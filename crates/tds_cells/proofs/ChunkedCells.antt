@@ -11,7 +11,7 @@ four_at : (k : ℕ) (bytes : List ℕ) → k + 4 ≤ length bytes
 four_at k bytes within = grind (arith, common_steps)
 
 eight_at_front : (bytes : List ℕ) → 8 ≤ length bytes → (length (take 8 bytes) ≡ 8) × (N.little (take 8 bytes) ≡ little_number 8 bytes)
-eight_at_front bytes within = grind (arith, common_steps)
+eight_at_front bytes within = grind arith
 
 -- the terminator
 zeros_at : (k : ℕ) (bytes : List ℕ) → k + 4 ≤ length bytes → little_number 4 (drop k bytes) ≡ 0 → take 4 (drop k bytes) ≡ 0 ∷ 0 ∷ 0 ∷ 0 ∷ []
@@ -26,7 +26,7 @@ module _ (bytes : List ℕ) where
   -- the total alone
   no_chunk : HasOneChunk bytes 0 → SpellsChunked [] (take 12 bytes)
   no_chunk x =
-      let total = eight_at_front bytes (omega (arith, x.within)) in
+      let total = eight_at_front bytes (omega arith) in
       record {
         total = take 8 bytes;
         rest = take 4 (drop 8 bytes);
@@ -34,7 +34,7 @@ module _ (bytes : List ℕ) where
         spelt = N.take-add 8 4 bytes;
         eight = total.0;
         known = grind arith;
-        each = zeros_at 8 bytes (omega (arith, x.within)) (sym x.counted);
+        each = grind arith;
         all = refl;
       }
 
@@ -49,17 +49,9 @@ module _ (bytes : List ℕ) where
   one_chunk : (n : ℕ) → 0 < n → HasOneChunk bytes n → SpellsChunked (chunk_data n bytes) (take (16 + n) bytes)
   one_chunk n some x =
       let within : 16 + n ≤ length bytes = grind arith in
-      let total = eight_at_front bytes (omega (arith, within)) in
-      let header = four_at 8 bytes (omega (arith, within)) in
+      let total = eight_at_front bytes (omega arith) in
       let d = chunk_data n bytes in
-      let counted : length d ≡ n = N.length-take-le n (drop 12 bytes) (omega (arith, within, N.length-drop 12 bytes)) in
-      let chunk : N.SpellsChunk d (take 4 (drop 8 bytes) ++ d) = record {
-        header = take 4 (drop 8 bytes);
-        spelt = refl;
-        four = header.0;
-        counted = header.1 ∙ sym x.counted ∙ sym counted;
-        some = omega (arith, counted);
-      } in
+      let counted : length d ≡ n = grind (arith, N.length-take-le, N.length-drop) in
       record {
         total = take 8 bytes;
         rest = take 4 (drop 8 bytes) ++ d ++ take 4 (drop (12 + n) bytes);
@@ -67,20 +59,14 @@ module _ (bytes : List ℕ) where
         spelt = ap (λ k. take k bytes) (omega arith) ∙ N.take-add 8 ((4 + n) + 4) bytes ∙ ap (λ r. take 8 bytes ++ r) (parts n);
         eight = total.0;
         known = grind arith;
-        each = (
-          take 4 (drop 8 bytes) ++ d,
-          take 4 (drop (12 + n) bytes),
-          refl,
-          chunk,
-          zeros_at (12 + n) bytes (omega (arith, within)) (x.ended some),
-        );
+        each = grind (arith, zeros_at);
         all = N.append-nil d;
       }
 
   -- one chunk whose total agrees, with the terminator, spells its data
   chunk_spells : (n : ℕ) → HasOneChunk bytes n → SpellsChunked (chunk_data n bytes) (take (N.chunk_end n) bytes)
   chunk_spells n x = N.choose (λ k. SpellsChunked (chunk_data n bytes) (take k bytes)) (n == 0) 12 (16 + n)
-      (λ z. let none = N.eq_true n 0 z in rw none (no_chunk (rw none at x)))
+      (grind (arith, N.eq_true, no_chunk))
       (λ z. one_chunk n (omega (arith, N.eq_false n 0 z)) x)
 
 module _ (column : ℕ) (c : N.Conversion) (last : N.Bool) (bytes text : List ℕ) where

@@ -24,7 +24,7 @@ comma_made made n to within is = sym (N.length-take-le made to within) ∙ ap le
 -- a row has as many formats as there are columns
 pub row_length : (row_format : RowFormat) (row : List CellFormat) → row_format.known ≡ row_format.count → row
     ≡ take row_format.known row_format.formats.now → length row ≡ row_format.count
-row_length row_format row all are = ap length are ∙ N.length-take-le row_format.known row_format.formats.now (omega (arith, row_format.there)) ∙ all
+row_length row_format row all are = ap length are ∙ N.length-take-le row_format.known row_format.formats.now (omega arith) ∙ all
 
 -- the next cell of a row is left
 pub far_left : (row_format : RowFormat) (row : List CellFormat) (cells : ℕ) (d : CellFormat) (bytes : List ℕ) (room more : ℕ) → d ≡ get_or row cells d
@@ -32,8 +32,8 @@ pub far_left : (row_format : RowFormat) (row : List CellFormat) (cells : ℕ) (d
     → N.IsLeft row_format.charset d.kind bytes more → N.FirstLeft row_format.charset (drop cells row) bytes room
 far_left row_format row cells d bytes room more is less left = λ format rest are.
     let at : cells ≡ cells + 0 = omega arith in
-    let next : d ≡ format = is ∙ ap (λ (n : ℕ). get_or row n d) at ∙ sym (get_or-drop cells row 0 d) ∙ ap (λ (fs : List CellFormat). get_or fs 0 d) are in
-    N.inr (N.FormatSteps.left_less _ _ _ less (N.subst (λ (f : CellFormat). N.IsLeft row_format.charset f.kind bytes more) next left))
+    let next : d ≡ format = grind (arith, get_or-drop) in
+    N.inr (N.FormatSteps.left_less _ _ _ less (grind arith))
 
 -- what stands before the comma of the next cell, that comma, its field and what comes after it
 module _ (cells made m end : ℕ) (old new final e : List ℕ) (begun : comma_size cells ≤ made) (within : made ≤ length old)
@@ -43,33 +43,25 @@ module _ (cells made m end : ℕ) (old new final e : List ℕ) (begun : comma_si
   at = made - comma_size cells
 
   there : at + comma_size cells ≡ made
-  there = omega (arith, begun)
+  there = omega arith
 
   before : take (at + comma_size cells) new ≡ take (at + comma_size cells) (take at old ++ (after_comma cells [] ++ []))
   before =
       let all = take at old ++ (after_comma cells [] ++ []) in
-      let same : all ≡ take made old = ap (λ l. take at old ++ l) (N.append-nil (after_comma cells [])) ∙ sym comma in
-      let size : length all ≤ at + comma_size cells = omega (arith, ap length same, N.length-take-le made old within, there) in
+      let same : all ≡ take made old = grind arith in
+      let size : length all ≤ at + comma_size cells = grind (arith, N.length-take-le, there) in
       ap (λ (n : ℕ). take n new) there ∙ kept ∙ sym same ∙ sym (N.take_all (at + comma_size cells) all size)
 
   pub far_text : (at ≤ end) × ((take at final ≡ take at old) × (take (end - at) (drop at final) ≡ after_comma cells (take m (drop made new)) ++ e))
   far_text =
       let k = comma_size cells in
       let x = N.FormatSteps.line_beyond at k m end old (after_comma cells []) [] new final e (
-        omega (arith, within),
         omega arith,
-        omega (arith, there, fits),
+        omega arith,
+        omega arith,
         ends,
-      ) before (is ∙ ap (λ (n : ℕ). take (n + m) new ++ e) (sym there)) in
-      let first : take k (after_comma cells []) ≡ after_comma cells [] = N.take_all k (after_comma cells []) (omega arith) in
-      let field : take m (drop (at + k) new) ≡ take m (drop made new) = ap (λ (n : ℕ). take m (drop n new)) there in (
-        x.0,
-        (
-          x.1.0,
-          x.1.1 ∙ ap (λ l. (l ++ take m (drop (at + k) new)) ++ e) first ∙ ap (λ l. (after_comma cells [] ++ l) ++ e) field
-              ∙ ap (λ l. l ++ e) (sym (N.RowTexts.after_append cells [] (take m (drop made new)))),
-        ),
-      )
+      ) before (grind (arith, there)) in
+      (grind (arith, N.RowTexts.after_append))
 
 -- one cell more of the row
 pub far_more : {row_format : RowFormat} {from : N.Cursor} {walk : N.Walk} {bytes old : List ℕ} {rows : ℕ} {row : List CellFormat}
@@ -86,19 +78,19 @@ far_more {row_format = row_format} {walk = walk} {bytes = bytes} {old = old} {ro
     (begun, (within, few)) comma kept (fits, ends) is whole wrote x =
     let at = made - comma_size cells in
     let text = far_text cells made m end old new final (end_after last) begun within comma kept fits ends is in
-    let made_is : end ≡ at + (end - at) = omega (arith, text.0) in
+    let made_is : end ≡ at + (end - at) = omega arith in
     let rest = drop at final in
     let final_is : final ≡ take at old ++ (rest ++ []) =
-    sym (N.take-append-drop at final) ∙ ap (λ t. t ++ rest) text.1.0 ∙ ap (λ t. take at old ++ t) (sym (N.append-nil rest)) in
+    grind (arith, N.take-append-drop, N.append-nil) in
     let left = N.all_after bytes used in
-    let known : cells < row_format.known = omega (arith, all, some) in
+    let known : cells < row_format.known = omega arith in
     let row_form = ap (λ (l : List CellFormat). get_or l cells d) are ∙ N.get_or-take row_format.known row_format.formats.now cells d known in
     let kind_is = ap (λ (f : CellFormat). f.kind) (format_is ∙ row_form) in
     let size : 0 < u = omega (arith, whole, whole_some d.kind (drop used bytes)) in
     rw (final_is, made_is) (rows_more {cells = record { used = u; made = end - at; ahead = place walk (cells + 1) }} rest [] size
     (rw left few) (omega (arith, ends, N.length-drop at final))
     (λ columns knows ahead.
-    let next = next_known row_format columns (place walk cells) d.kind knows ahead d some known (omega (arith, row_format.there)) kind_is in
+    let next = next_known row_format columns (place walk cells) d.kind knows ahead d some known (omega arith) kind_is in
     let after = place_known row_format (place walk cells) cells (cells + 1) all (omega (arith, some)) (omega (arith, some)) columns knows ahead in
     let taken = takes next N.refl after in
     let end_is = last_is ∙ last_one columns (drop (cells + 1) columns) taken.column cells row_format.count knows.counted taken.next in
@@ -128,7 +120,7 @@ rest_more {row_format = row_format} {bytes = bytes} rest cells u made m end now 
     let less : u ≤ length (drop used bytes) = omega (arith, few, within, N.length-drop used bytes) in
     rw now_is (far_more cells used u made m end d new final last all some are last_is format_is (begun, (fits, less)) comma kept room is
     (whole ∙ ap (N.whole_size d.kind) rest_is)
-    (N.subst (λ (l : List ℕ). N.WritesField row_format.charset d.kind (take u l) (take m (drop made new))) rest_is wrote) x)
+    (grind arith) x)
 
 -- what begins a row has a byte
 pub begins_some : (bytes : List ℕ) → N.BeginsRow bytes → 1 ≤ length bytes

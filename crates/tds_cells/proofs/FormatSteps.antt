@@ -6,8 +6,6 @@ use N.RowTexts.{after_some_column, after_append}
 use N.RunSteps.{made_more, used_more, whole_some, unused}
 use borrow.Rule.Slice.PartMut.{put_mid}
 use Rattle.std.proofs.lemmas.List.{drop-append-le, drop-set-add, take-set-le}
-use Rattle.tds_cells.specs.FormatRuns.{IsLatest, NumbersWithin}
-use Rattle.tds_values.specs.declared.span.Span.{Span}
 
 not_last : (rest : List Column) → 0 < length rest → false ≡ N.is_last_column rest
 not_last _ some = grind arith
@@ -118,7 +116,7 @@ module _ (charset : Charset) (formats : List CellFormat) (column : ℕ) (bytes :
       let field = take m text in
       let all = take made to ++ _ in
       let here : made + m < length all =
-      omega (arith, N.length-append (take made to) (text ++ rest), N.length-append text rest, N.length-take-le made to within) in
+      grind (arith, N.length-append, N.length-take-le) in
       let is' =
       N.take_more_set all _ 44 here ∙ ap (λ l. l ++ 44 ∷ []) (made_more made m to text rest within (omega arith)
       ∙ ap (λ l. l ++ field) is ∙ N.append_assoc fields _ field
@@ -126,7 +124,6 @@ module _ (charset : Charset) (formats : List CellFormat) (column : ℕ) (bytes :
       ∙ ap (λ l. (fields ++ N.after_comma (column + k) field) ++ l) (after_some_column (column + (k + 1)) (λ e. omega arith)) in
       let written : N.WritesFormats charset formats column (suc k) _ _ =
       (take used bytes, read, fields, field, used_more used u bytes, refl, x, λ format. rw (N.get_or_default formats k d format there) at wrote) in
-      let next : suc k ≡ k + 1 = omega arith in
       rw further (grind arith)
 
   pub first_alone : (ends : Bool) (to : List ℕ) (used made : ℕ) (fields : List ℕ) → FirstUsed formats bytes used
@@ -144,8 +141,7 @@ module _ (charset : Charset) (formats : List CellFormat) (column : ℕ) (bytes :
 -- what is written from `at` on
 pub beyond_kept : (at m : ℕ) (to x rest : List ℕ) → at ≤ length to → m ≤ length x → take m (drop at (take at to ++ (x ++ rest))) ≡ take m x
 beyond_kept at m to x rest within fits =
-    ap (take m) (drop-append-le at (take at to) (x ++ rest) (omega (arith, N.length-take-le at to within))
-    ∙ ap (λ l. l ++ (x ++ rest)) (N.drop_all at (take at to) (omega (arith, N.length-take-le at to within)))) ∙ N.take-append-le m x rest fits
+    ap (take m) (grind (arith, drop-append-le, N.length-take-le, N.drop_all)) ∙ N.take-append-le m x rest fits
 
 -- what was written from `made` on
 pub written_after : (made : ℕ) (old new : List ℕ) → made ≤ length old → length new ≡ length old → take made new ≡ take made old
@@ -169,8 +165,7 @@ set_beyond at made m to x begun within =
     let place : made + m ≡ at + ((made - at) + m) = omega arith in
     let split : made ≡ at + (made - at) = omega arith in
     ap (λ (n : ℕ). drop at (N.slice_set (take made to ++ x) n 44)) place ∙ drop-set-add at (take made to ++ x) ((made - at) + m) 44
-    ∙ ap (λ l. N.slice_set l ((made - at) + m) 44) (drop-append-le at (take made to) x (omega (arith, N.length-take-le made to within))
-    ∙ ap (λ l. l ++ x) (ap (λ (n : ℕ). drop at (take n to)) split ∙ N.drop-take at (made - at) to))
+    ∙ ap (λ l. N.slice_set l ((made - at) + m) 44) (grind (arith, drop-append-le, N.length-take-le, N.drop-take))
 
 -- and one that stands before it
 pub kept_before : (at made m : ℕ) (to x : List ℕ) → at ≤ made → made ≤ length to → take at (N.slice_set (take made to ++ x) (made + m) 44) ≡ take at to
@@ -286,8 +281,8 @@ pub fields_end : {charset : Charset} {formats : List CellFormat} {column : ℕ} 
     → N.FieldsWritten charset formats column bytes to (record { cells = cells; used = used; made = made })
     → N.WritesFields charset formats column bytes new (record { cells = cells; used = used; made = made })
 fields_end to new at size same x = record {
-  within = record { cells = at.few; used = at.taken; made = omega arith; some = at.some; none = λ none. (at.begun none).0 };
-  room = λ some. (let further = at.further some in (further.0, omega arith));
+  within = grind arith;
+  room = grind arith;
   one = at.one;
   fields = (x.0, x.1, same ∙ x.2);
 }
@@ -301,9 +296,9 @@ pub ended_run : {charset : Charset} {formats : List CellFormat} {column cells us
 ended_run at end made old new e some x begun most same is =
     let room = x.room some in
     let size = N.length-drop at old in
-    let fits : end ≤ length new = omega (arith, room, size) in
+    let fits : end ≤ length new = omega arith in
     let less : (made - 1) - at ≡ (made - at) - 1 = omega arith in
-    let y = ended_beyond at end (made - 1) old new e (omega (arith, room)) (omega (arith, room, size)) fits is in
+    let y = ended_beyond at end (made - 1) old new e (omega (arith, room)) (omega arith) fits is in
     ((y.0, fits), (y.1.0, rw less at y.1.1))
 
 -- the run is over once the end of the line, or nothing, stands over the last comma
@@ -323,12 +318,8 @@ fields_run {charset = charset} {formats = formats} {column = column} {ends = end
           let first = first_alone charset formats column bytes ends new run.used made fields (x.one alone) one
           (text_is ∙ ap (λ (n : ℕ). fields ++ end_after (ends && (n == length formats))) alone) in
           first;
-      cells = λ columns next. rw (sym text_is) at (run_marked charset formats column ends columns next run.cells _ fields some x.within.cells wrote);
+      cells = grind (arith, run_marked);
     }
-
--- a cell of at most five bytes leaves five for each of the others
-pub bytes_step : (n k used u size : ℕ) → k < n → u ≤ 5 → used + 5 * (n - k) < size → used + u + 5 * (n - (k + 1)) < size
-bytes_step n k _ u _ some few within = omega arith
 
 -- its field, of at most 11, and the comma after it leave room for those of the others
 pub room_step : (n k made m room more : ℕ) → more ≡ room → k < n → m ≤ 11 → made + 12 * (n - k) + 25 ≤ room
@@ -339,7 +330,7 @@ shape_less : (s : N.Shape) (bytes : List ℕ) {fewer room : ℕ} → fewer ≤ r
 shape_less (N.LongShape c N.Short) _ less left = grind arith
 shape_less (N.LongShape c N.Chunked) _ less left = record {
   some = left.some;
-  one = λ n x. elim (left.one n x) [ inl few ↦ inl (omega (arith, less, few)) | inr unfit ↦ inr unfit ];
+  one = grind arith;
 }
 shape_less N.CountedShape _ less left = left
 shape_less (N.FixedShape n) _ less left = left
@@ -348,16 +339,11 @@ pub left_less : (charset : Charset) (kind : N.Kind) (bytes : List ℕ) {fewer ro
     → N.IsLeft charset kind bytes fewer
 left_less charset kind bytes less left = elim left [
   | inl scalar ↦ inl scalar
-  | inr long ↦ inr (long.0, shape_less (N.shape charset kind) bytes less long.1)
+  | inr long ↦ inr (grind (arith, shape_less))
 ]
 
 -- the first cell is left with less room, too
 pub first_less : (charset : Charset) (formats : List CellFormat) (bytes : List ℕ) {fewer room : ℕ} → fewer ≤ room → N.FirstLeft charset formats bytes room
     → N.FirstLeft charset formats bytes fewer
 first_less charset _ bytes less x format rest are =
-    elim (x format rest are) [ inl few ↦ inl (omega (arith, less, few)) | inr left ↦ inr (left_less charset format.kind bytes less left) ]
-
--- a row of some numbers that begins later lacks bytes or room
-pub too_late : {cells n bytes room b r used made : ℕ} {latest : Span} → IsLatest cells bytes room latest → 0 < cells → n ≡ cells → b ≡ bytes - used
-    → r ≡ room - made → (latest.used < used) ⊎ (latest.made < made) → NumbersWithin n b r → ⊥
-too_late is some count left free late x = grind arith
+    elim (x format rest are) [ inl few ↦ inl (omega arith) | inr left ↦ inr (grind (arith, left_less)) ]

@@ -50,10 +50,6 @@ module _ (charset : N.Charset) (kind : Kind) where
   pub short_whole : (content : N.Content) (bytes : List ℕ) → N.IsLaidOut charset kind (ShortLayout content) → N.short_size bytes ≡ N.whole_size kind bytes
   short_whole _ _ laid = grind arith
 
-  pub chunked_whole : (content : N.Content) (bytes : List ℕ) → N.IsLaidOut charset kind (Chunked content)
-      → N.chunked_size bytes ≡ N.whole_size kind bytes
-  chunked_whole _ _ laid = grind arith
-
 -- a long value was written, and so the cell of a kind that is one
 pub long_laid : (charset : N.Charset) (kind : Kind) (c : N.Conversion) (reach : Reach) (bytes text : List ℕ) (room : ℕ) (result : N.Option Span)
     → N.shape charset kind ≡ N.LongShape c reach → LongWritten c reach bytes room text result → CellWritten charset kind bytes room text result

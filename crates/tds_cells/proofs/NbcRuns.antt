@@ -19,9 +19,7 @@ module _ (used size : ℕ) (bytes : List ℕ) where
       → N.WritesNbcRows charset columns (n + 1) (N.take (used + (size + u) + 1) bytes) (N.take (made + m) (N.take made to ++ (text ++ left)))
   nbc_row_more charset columns n u made m to text left within fits more next whole before row =
       let row_bytes : N.take (size + (u + 1)) (unused used bytes) ≡ (bitmap ++ N.take u cells) ++ N.token_byte N.NbcRow ∷ [] =
-      used_more size (u + 1) (unused used bytes) ∙ ap (λ l. bitmap ++ l) (used_more u 1 cells
-      ∙ ap (λ l. N.take u cells ++ l) (N.take_more (unused u cells) 0 0 more ∙ ap (λ b. b ∷ []) next))
-      ∙ N.sym (N.append_assoc bitmap (N.take u cells) _) in
+      grind (N.arith, used_more, N.take_more, N.append_assoc) in
       let place : used + (size + u) + 1 ≡ used + (size + (u + 1)) = omega N.arith in
       let suc : N.suc n ≡ n + 1 = omega N.arith in
       N.subst (λ k. N.WritesNbcRows charset columns k (N.take (used + (size + u) + 1) bytes) (N.take (made + m) (N.take made to ++ (text ++ left)))) suc (

@@ -10,7 +10,7 @@ null_column _ columns nulls k within null =
     let column = N.get_or columns k c in
     let next = N.drop_more columns k c within in
     let last = N.RowFormatSteps.last_one columns (N.drop (k + 1) columns) column k (length columns) refl next in
-    record { column = column; left = N.drop (k + 1) columns; next = next; writes = rw null (refl, ap (λ (e : Bool). N.in_line k e N.null_field) last) }
+    record { column = column; left = N.drop (k + 1) columns; next = next; writes = grind arith }
 
 -- the text of so many, none of which is the first or the last of its row
 abbrev pub nulls_text : ℕ → List ℕ
@@ -67,5 +67,5 @@ null_alone nulls at count within null = record {
   within = omega arith;
   writes = λ charset columns counted.
       let one = rw counted at (null_column charset columns nulls at (omega arith) null) in
-      ([], [], [], _, refl, refl, (refl, refl), rw (N.add-zero at) one);
+      (grind (arith, N.add-zero));
 }

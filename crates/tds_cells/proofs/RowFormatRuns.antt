@@ -57,8 +57,8 @@ pub rows_more : {row_format : RowFormat} {from : Cursor} {bytes to : List ℕ} {
     → RowsRan row_format from bytes (take run.made to ++ (text ++ rest))
     (record { used = run.used + cells.used; made = run.made + cells.made; rows = run.rows; ahead = cells.ahead })
 rows_more {from = from} {bytes = bytes} {to = to} {run = run} text rest _ within fits gives x = record {
-  used = omega (arith, N.length-take (length bytes - run.used) (drop run.used bytes));
-  made = omega (arith, N.length-append (take run.made to) (text ++ rest), N.length-append text rest, N.length-take-le run.made to x.made);
+  used = grind (arith, N.length-take);
+  made = grind (arith, N.length-append, N.length-take-le);
   few = omega arith;
   writes = λ columns knows is. (let y = x.writes columns knows is in more_in_rows from _ _ _ _ _ _ x.made fits y (gives columns knows y.0));
 }
@@ -79,8 +79,8 @@ pub rows_further : {row_format : RowFormat} {from : Cursor} {bytes to : List ℕ
     → RowsRan row_format from bytes (take run.made to ++ (text ++ rest))
     (record { used = run.used + more.used; made = run.made + more.made; rows = run.rows + more.rows; ahead = more.ahead })
 rows_further {bytes = bytes} {to = to} {run = run} {more = more} text rest x y = record {
-  used = omega (arith, N.length-take (length bytes - run.used) (drop run.used bytes));
-  made = omega (arith, N.length-append (take run.made to) (text ++ rest), N.length-append text rest, N.length-take-le run.made to x.made);
+  used = grind (arith, N.length-take);
+  made = grind (arith, N.length-append, N.length-take-le);
   few = omega arith;
   writes = λ columns knows ahead. (let u = x.writes columns knows ahead in let v = y.writes columns knows u.0 in (
     v.0,
@@ -117,7 +117,6 @@ module _ (charset : N.Charset) (columns : List Column) where
       → N.WritesMarked charset columns N.none_null from n bytes text → N.WritesMarked charset columns nulls from n bytes text
   marked_clear _ _ N.zero _ _ _ x = x
   marked_clear nulls from (suc n) _ _ clear x =
-      let last = x.7 in
       let one : N.WritesColumn charset columns nulls (from + n) x.1 x.3 =
       grind arith in
       (x.0, x.1, x.2, x.3, x.4, x.5, marked_clear _ _ n _ _ (grind arith) x.6, one)
@@ -151,7 +150,7 @@ module _ {row_format : RowFormat} {columns : List Column} {nulls : ℕ → Bool}
     count = x.count + y.count;
     ahead = y.ahead;
     further = omega arith;
-    writes = rw (used_more, made_more) (marked_both _ _ _ _ _ _ _ _ _ _ x.writes (rw x.further at y.writes));
+    writes = grind (arith, used_more, made_more, marked_both);
   }
 
 -- a run ended before a column whose bit is clear
@@ -212,7 +211,6 @@ module _ (row_format : RowFormat) (from : Cursor) (end : ℕ) (formats : List Ce
       → (room < N.CELL_ROOM) ⊎ ((false ≡ false) × N.IsLeft row_format.charset column.kind bytes room)
   first_left x columns column _ knows is step =
       let first = some_first _ ahead.some in
-      let n = first_next first.2 columns knows is in
       elim (x first.0 first.1 first.2) [
         | inl few ↦ inl few
         | inr y ↦ inr (grind arith)
@@ -228,11 +226,11 @@ module _ (row_format : RowFormat) (from : Cursor) (end : ℕ) (formats : List Ce
       let there : drop k next ≡ column ∷ left = N.drop-drop k from.column columns ∙ step in
       let place : k ≡ k + 0 = omega arith in
       let first : N.get_or formats k format ≡ format =
-      ap (λ (n : ℕ). N.get_or formats n format) place ∙ sym (get_or-drop k formats 0 format) ∙ ap (λ l. N.get_or l 0 format) are in
+      grind (arith, get_or-drop) in
       let second : N.get_or next k column ≡ column =
-      ap (λ (n : ℕ). N.get_or next n column) place ∙ sym (get_or-drop k next 0 column) ∙ ap (λ l. N.get_or l 0 column) there in
+      grind (arith, get_or-drop) in
       let kinds_are : N.map (λ f. f.kind) (take (length formats) formats) ≡ N.kinds (take (length formats) next) =
-      ap (N.map _) (N.take_all (length formats) formats (omega arith)) ∙ ahead.next columns knows is in
+      grind (arith, N.take_all) in
       let further : k < length next = omega (arith, ap length there, N.length-drop k next) in
       let kind_is = rw (first, second) at (N.RowFormatSteps.known_kind formats next (length formats) k format column kinds_are some (omega arith) further) in
       elim (x format rest are) [ inl few ↦ inl few | inr y ↦ inr (rw kind_is at y) ]
@@ -244,9 +242,9 @@ pub place_known : (row_format : RowFormat) (from : Cursor) (a b : ℕ) → row_f
     → (columns : List Column) → Knows row_format columns → IsCursor row_format columns (record from { column = a })
     → IsCursor row_format columns (record from { column = b })
 place_known row_format from a b all within few columns knows is = record {
-  counted = omega (arith, knows.counted);
+  counted = omega arith;
   within = λ _. is.within (omega arith);
-  beyond = λ end. (let same : row_format.known ≡ b = omega arith in is.within (omega arith) ∙ ap (λ n. drop n columns) same);
+  beyond = grind arith;
 }
 
 -- the formats of the rest of such a row
@@ -259,11 +257,7 @@ rest_ahead row_format at row all are some =
     let split : row_format.known ≡ at.column + n = omega arith in
     let rest = ap (drop at.column) (are ∙ ap (λ m. take m row_format.formats.now) split) ∙ N.drop-take at.column n row_format.formats.now in
     let counted = N.length-take-le n (drop at.column row_format.formats.now) (omega
-    (arith, N.length-drop at.column row_format.formats.now, row_format.there)) in (
-      rw (sym rest) at (known_ahead row_format at row_format.count n row_format.laid (omega (arith, row_format.there)) (omega arith) (omega arith)
-          (omega arith) (omega arith)),
-      omega (arith, ap length rest, counted),
-    )
+    (arith, N.length-drop at.column row_format.formats.now, row_format.there)) in (grind (arith, known_ahead))
 
 -- a whole row more, whose place is counted from the front of all
 pub row_far : {from : Cursor} {bytes to : List ℕ} {rows used made : ℕ} (row_format : RowFormat) (row : List CellFormat) (run : N.FormatsRun) (new : List ℕ)
@@ -277,15 +271,13 @@ row_far {from = from} {bytes = bytes} {to = to} {used = u} {made = m} row_format
     let made = drop m new in
     let rest = N.all_after bytes u in
     let kept : new ≡ take m to ++ (made ++ []) =
-    sym (N.take-append-drop m new) ∙ ap (λ t. t ++ made) same ∙ ap (λ t. take m to ++ t) (sym (N.append-nil made)) in
-    let used : run.used ≡ u + (run.used - u) = omega (arith, begun) in
-    let end : run.made ≡ m + (run.made - m) = omega (arith, begun) in
+    grind (arith, N.take-append-drop, N.append-nil) in
+    let used : run.used ≡ u + (run.used - u) = omega arith in
+    let end : run.made ≡ m + (run.made - m) = omega arith in
     rw (kept, used, end) (rows_more {cells = record { used = run.used - u; made = run.made - m; ahead = record from { column = row_format.count } }}
-    made [] (written.within.some (omega (arith, whole, some))) (rw rest written.within.used)
+    made [] (written.within.some (omega arith)) (rw rest written.within.used)
     (omega (arith, written.within.made, N.length-drop m new))
-    (λ columns knows is. formats_between _ _ _ _ (omega arith) next.0 _ (sym (N.eq-eqb _ _ next.1)) columns knows is _ _ _
-    (N.run_since (record { used = u; made = m }) run) (omega (arith, whole))
-    (place_known row_format from 0 row_format.count all (omega arith) (omega arith) columns knows is) (rw rest written.cells)) x)
+    (grind (arith, formats_between, N.eq-eqb, place_known)) x)
 
 -- what such a run is with this walk
 abbrev pub known_run : N.Walk → N.KnownRun → N.RowsRun

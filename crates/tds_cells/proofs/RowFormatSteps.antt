@@ -91,20 +91,6 @@ last_one columns (d ∷ ds) c k n whole next = N.ne_eqb _ n (λ e. omega (arith,
 pub none_next : (columns : List Column) (k : ℕ) {n : ℕ} → n ≡ length columns → n ≤ k → drop k columns ≡ []
 none_next _ k whole all = grind (arith, N.drop_all)
 
--- before the row's end the next column is ahead, of some kind
-pub next_any : (columns : List Column) (at : Cursor) (n : ℕ) → n ≡ length columns → at.column < n → (kind : Kind) × N.NextColumn columns at kind
-next_any columns at n whole some =
-    let c : Column = grind arith in
-    let column = get_or columns at.column c in (
-      column.kind,
-      record {
-        column = column;
-        rest = drop _ columns;
-        next = N.drop_more columns at.column c (omega arith);
-        kind = N.refl;
-      },
-    )
-
 -- as many lie before where the place is the row's end
 pub all_before : {k n : ℕ} → N.true ≡ (k == n) → n ≤ k
 all_before is = grind arith

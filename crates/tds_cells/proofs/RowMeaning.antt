@@ -46,8 +46,7 @@ module _ (charset : N.Charset) where
         column = k;
         front = b;
         rest = [];
-        split = split
-            ∙ sym (N.append_assoc before _ ks);
+        split = grind (arith, N.append_assoc);
         spelt = search N.rules;
         whole = h;
         begun = grind arith;
@@ -96,7 +95,7 @@ module _ (charset : N.Charset) where
         → N.Spelt (row charset) from bytes to → RowMeans columns nbc to bytes
     row_means nbc {from} begun bytes to are h =
         N.Spelt-induct _ (λ p b. AreBytes b → RowMeans columns nbc p b)
-        (λ p b e m n all. row_step _ p b e (N.AreBytes-back b e all) (m (N.AreBytes-front b e all)) n) from (λ _. begun) bytes to h are
+        (grind (arith, row_step, N.AreBytes-back, N.AreBytes-front)) from (λ _. begun) bytes to h are
 
     pub row_is_spelt : {cells : List Cell} {bytes : List ℕ} → AreBytes bytes → N.Spelt (row charset) (N.row_start charset columns) bytes (N.WholeRow cells)
         → N.SpellsRow charset columns cells bytes

@@ -60,7 +60,6 @@ counted_written : (column : ℕ) (kind : Kind) (n : ℕ) (last : Bool) (bytes te
 counted_written column kind n _ bytes _ is some within x =
     let whole = N.length-take-le n _ (grind arith) in
     let good = ap (N.is_length_allowed kind) (N.sym whole) ∙ read_allowed kind _ x.0 x.1 in
-    let yes = ap (λ v. v || N.is_length_allowed kind n) (N.ne_eqb n 0 some) ∙ good in
     let to : (N.cell column).add (N.ScalarLength kind) (n ∷ []) ≡ N.ScalarBytes kind n = grind arith in
     record {
       value = N.ScalarCell x.0;
@@ -68,8 +67,7 @@ counted_written column kind n _ bytes _ is some within x =
       at = N.ScalarBytes kind n;
       element = take n _;
       joined = N.sym (N.take-add 1 n bytes ∙ ap (λ l. l ++ take n (drop 1 bytes)) (first_of bytes n (omega arith) is));
-      spelt = rw to at (N.Spelt-one (N.cell column) (N.ScalarLength kind) (n ∷ [])
-          (record { some = omega arith; whole = refl; free = cc }));
+      spelt = grind (arith, N.Spelt-one);
       next = grind arith;
       whole = cc;
       quiet = refl;
@@ -92,23 +90,17 @@ module _ (charset : N.Charset) (kind : Kind) (column : ℕ) (last : Bool) (bytes
           let none = at ∙ ap N.start_after e in
           let all = many ∙ ap (λ o. N.length_after o bytes) e in
           let whole : start + n ≡ m = omega arith in
-          rw (scalar_shape, e, whole) (fixed_written column kind m last bytes text (omega arith) (omega arith) (rw (none, all) at is))
+          rw (scalar_shape, e, whole) (grind (arith, fixed_written))
       go N.None e =
           let one = at ∙ ap N.start_after e in
-          rw (scalar_shape, e, one) (counted_written column kind n last bytes text (grind arith) some (omega arith) (rw one at is))
+          rw (scalar_shape, e, one) (grind (arith, counted_written))
 
   -- the value at the front of these bytes
   pub front_cell : (used : ℕ) → IsTrue (is_valid kind) → used ≡ N.scalar_size kind bytes → used ≤ length bytes
       → IsValueText kind column last (N.value_bytes kind bytes) text
       → WritesCell (N.cell_start kind (shape charset kind)) column last (take used bytes) text
   front_cell used valid is within x =
-      let allowed = read_allowed kind _ x.0 x.1 in
-      rw is (value_cell _ _ refl refl (λ none. absurd (allowed_some kind valid scalar (rw none at allowed))) (omega (arith, is)) x)
-
--- a whole number of four bytes is read alike in each of its kinds
-pub int4_reads : (kind : Kind) (bytes : List ℕ) → N.IsInt4 kind → length bytes ≡ 4 → (N.is_scalar kind ≡ true)
-    × (N.read_of kind bytes ≡ N.read_of (N.IntN 4) bytes)
-int4_reads _ _ number _ = grind arith
+      rw is (value_cell _ _ refl refl (grind (arith, allowed_some)) (omega (arith, is)) x)
 
 pub int4_scalar : (kind : Kind) → N.IsInt4 kind → N.is_scalar kind ≡ true
 int4_scalar _ number = grind arith

@@ -6,7 +6,7 @@ use N.Bits.{ones_before}
 pub returns-clause-few : goal.returns-clause-few
 returns-clause-few c =
     let ones = ones_before c.args.bitmap.now c.args.column (search N.rules) in
-    omega (arith, ones.0)
+    omega arith
 
 pub returns-clause-set : goal.returns-clause-set
 returns-clause-set c =

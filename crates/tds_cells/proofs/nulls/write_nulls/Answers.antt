@@ -15,10 +15,4 @@ slice_bounds-copy_from_slice-end-2 c = N.sym (N.length-take-le 40 c.args.to.now 
 pub returns-clause-nulls : goal.returns-clause-nulls
 returns-clause-nulls c =
     let n = c.min-columns.result in
-    let ahead = c.nulls_ahead.ensures in
-    rw (c.copy_from_slice.ensures.after, N.NullRuns.first_nulls n (N.drop 40 c.args.to.now) (omega (arith, ahead.few))) (record {
-      some = omega arith;
-      within = omega (arith, ahead.within);
-      writes = N.NullRuns.nulls_inside (N.bit c.args.bitmap.now) c.args.column n c.args.count (omega arith) (omega (arith, ahead.within))
-          (λ k least most. ahead.set k least (omega arith));
-    })
+    rw (c.copy_from_slice.ensures.after, N.NullRuns.first_nulls n (N.drop 40 c.args.to.now) (omega arith)) (grind (arith, N.NullRuns.nulls_inside))

@@ -8,7 +8,7 @@ returns-then-total c = record {
     search (arith, rules),
     λ column last.
         N.ChunkedCells.chunked_null column _ last c.args.bytes.now _ (λ i. (c.type_inv.bytes i).fits) (search (arith, rules)) (search (arith, rules))
-        (ap (N.in_line column last) c.write_null-made.ensures.text),
+        (grind arith),
   );
 }
 
@@ -17,8 +17,7 @@ returns c = record {
   cell = (
     search (arith, rules),
     λ column last.
-        let n = c.in-Some.n in
         let gives = rw (N.all_after c.args.bytes.now 12) at c.in-Some-write_field.ensures.gives in
-        rw c.chunk_end.ensures (N.ChunkedCells.chunked_value column _ last c.args.bytes.now _ n c.in-Some.ensures gives.0 (ap (N.in_line column last) gives.1)),
+        rw c.chunk_end.ensures (grind (arith, N.ChunkedCells.chunked_value)),
   );
 }

@@ -32,9 +32,9 @@ loop-known-preserved c =
       laid = each_set (λ f. N.IsLaidOut c.args.charset f.kind f.layout) _ _ c.of.result inv.laid
           (omega arith) c.of.ensures.laid;
       numbers = kind_set is_int4 _ _ c.of.result _ c.is_int4-only_numbers.result inv.numbers
-          (omega arith) (c.is_int4-only_numbers.ensures ∙ ap is_int4 (sym c.of.ensures.kind));
+          (omega arith) (grind arith);
       counted = kind_set is_counted _ _ c.of.result _ c.is_counted-only_counted.result inv.counted
-          (omega arith) (c.is_counted-only_counted.ensures ∙ ap is_counted (sym c.of.ensures.kind));
+          (omega arith) (grind arith);
       numbers_are = all_more is_int4 columns _ step inv.numbers_are c.is_int4-only_numbers.ensures;
       counted_are = all_more is_counted columns _ step inv.counted_are c.is_counted-only_counted.ensures;
       rest = sym next.1.1;
@@ -52,7 +52,7 @@ returns c =
       numbers = inv.numbers;
       counted = inv.counted;
       all = elim c.loop-known-test.branch [
-        | else-loop-known-test w ↦ N.inl (omega (arith, inv.most))
+        | else-loop-known-test w ↦ N.inl (omega arith)
         | then-loop-known-test+in_default w ↦ N.inr (omega (
           arith,
           inv.few,

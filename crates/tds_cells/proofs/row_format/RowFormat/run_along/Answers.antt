@@ -12,5 +12,5 @@ pub returns-clause-left : goal.returns-clause-left
 returns-clause-left c = λ columns column left knows is few step.
     let run = c.run_formats-run in
     let further = c.step.ensures.further in
-    let some : run.result.cells < N.length c.args.formats.now = omega (arith, few, further) in
+    let some : run.result.cells < N.length c.args.formats.now = omega arith in
     N.RowFormatRuns.next_left _ _ _ _ c.requires.within c.requires.ahead _ run.ensures.left some columns column left knows is (rw further at step)

@@ -19,14 +19,7 @@ loop-used-preserved c =
             room = search arith;
             writes = λ columns knows ahead.
                 let ran = l.invariant.writes columns knows ahead in
-                let written = w.write_nulls-nulls.ensures.nulls.writes c.args.self.now.charset columns (N.sym (w.count.ensures ∙ knows.counted)) in
-                let more : N.RunsMarked c.args.self.now columns (N.bit c.args.bitmap.now) l.at c.pass.new.at [] (N.take nulls.made text) = record {
-                  count = nulls.columns;
-                  ahead = c.pass.ensures.ahead columns knows ran.ahead;
-                  further = c.pass.ensures.further ∙ N.ap (λ n. l.at.column + n) w.columns-is;
-                  writes = written;
-                } in
-                rw (N.sym (N.add-zero l.used)) (runs_more _ _ _ _ _ _ _ _ _ l.invariant.made within ran more);
+                rw (N.sym (N.add-zero l.used)) (grind (arith, runs_more));
           })
       -- one that isn't
       | else-is_null+in-Some-next w ↦
@@ -36,9 +29,9 @@ loop-used-preserved c =
           let cell = w.in-Some-next.ensures.cell in
           let clear = N.sym c.is_null.ensures ∙ w.if-is_null.false in
           let new_is = N.FormatSteps.written_after l.made l.to new l.invariant.made (search arith) far.ensures.kept in
-          let within : made ≤ N.length (N.drop l.made new) = omega (arith, cell.0.made, far.auto.to, N.length-drop l.made new) in
+          let within : made ≤ N.length (N.drop l.made new) = grind (arith, N.length-drop) in
           rw (w.to-is, w.used-is, w.made-is) (record {
-            used = omega (arith, cell.0.used, l.invariant.used, N.length-drop l.used c.args.bytes.now);
+            used = grind (arith, N.length-drop);
             made = search arith;
             room = search arith;
             writes = λ columns knows ahead.

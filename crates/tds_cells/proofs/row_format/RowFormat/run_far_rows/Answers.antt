@@ -13,15 +13,13 @@ loop-rest-preserved c =
       room = search arith;
       few = omega arith;
       rows = λ columns knows.
-          let ran = c.run_far_marked-run.ensures.cells columns knows (c.start-at.ensures.ahead columns knows) in
           let end : c.run_far_marked-run.new.at.column ≡ c.args.self.now.count = search arith in
-          let counted : ran.count ≡ N.length columns = omega (arith, end, ran.further, c.start-at.ensures.first, knows.counted) in
           let whole = N.length-take-le c.bitmap_size-size.result (unused l.whole.used c.args.bytes.now) (search arith)
           ∙ c.bitmap_size-size.ensures.value ∙ ap N.bitmap_length (c.count.ensures ∙ knows.counted) in
           N.NbcRuns.nbc_row_more l.whole.used c.bitmap_size-size.result c.args.bytes.now _ columns l.whole.rows run.used l.whole.made run.made l.to
           c.run_far_marked-run.new.to _
           l.invariant.made (search arith) (search arith) (search arith) whole (l.invariant.rows columns knows)
-          (rw (c.start-at.ensures.first, counted) at ran.writes);
+          (grind arith);
     }
 
 pub returns-then-not-is_end-clause-ends : goal.returns-then-not-is_end-clause-ends
@@ -29,18 +27,15 @@ returns-then-not-is_end-clause-ends c =
     let l = c.loop-rest in
     let run = c.run_far_marked-run in
     rw l.invariant.room at (N.NbcRuns.nbc_rows_end l.whole.used c.bitmap_size-size.result c.args.bytes.now c.args.self.now c.start-at.result l.whole.made
-    l.to run.new.to (N.cell_run run.result run.new.at) (c.bitmap_size-size.ensures.value ∙ ap N.bitmap_length c.count.ensures)
+    l.to run.new.to (N.cell_run run.result run.new.at) (grind arith)
     c.start-at.ensures.first run.ensures.cells run.ensures.ends (λ is. search arith))
 
 pub returns-then-is_empty-clause-rows : goal.returns-then-is_empty-clause-rows
 returns-then-is_empty-clause-rows c = λ columns knows.
     let l = c.loop-rest in
     let run = c.run_far_marked-run.result in
-    let ran = c.run_far_marked-run.ensures.cells columns knows (c.start-at.ensures.ahead columns knows) in
-    let end : c.run_far_marked-run.new.at.column ≡ c.args.self.now.count = search arith in
-    let counted : ran.count ≡ N.length columns = omega (arith, end, ran.further, c.start-at.ensures.first, knows.counted) in
     let whole = N.length-take-le c.bitmap_size-size.result (unused l.whole.used c.args.bytes.now) (search arith)
     ∙ c.bitmap_size-size.ensures.value ∙ ap N.bitmap_length (c.count.ensures ∙ knows.counted) in
     N.NbcRuns.nbc_row_last l.whole.used c.bitmap_size-size.result c.args.bytes.now _ columns l.whole.rows run.used l.whole.made run.made l.to
     c.run_far_marked-run.new.to _ l.invariant.made (search arith) whole (l.invariant.rows columns knows)
-    (rw (c.start-at.ensures.first, counted) at ran.writes)
+    (grind arith)

@@ -7,10 +7,10 @@ returns-then-column-ne0-clause-rows g c = N.RowFormatRuns.known_ran (λ walk. rw
 
 pub returns-then-self-clause-rows : goal.returns-then-self-clause-rows
 returns-then-self-clause-rows g c =
-    let first : c.args.column ≡ 0 = omega (arith, c.if-column-ne0.false) in
+    let first : c.args.column ≡ 0 = omega arith in
     rw first c.run_numbers.ensures.rows
 
 pub returns-clause-rows : goal.returns-clause-rows
 returns-clause-rows g c =
-    let first : c.args.column ≡ 0 = omega (arith, c.if-column-ne0.false) in
+    let first : c.args.column ≡ 0 = omega arith in
     rw first c.run_numbers-2.ensures.rows

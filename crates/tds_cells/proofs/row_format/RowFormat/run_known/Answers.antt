@@ -10,11 +10,9 @@ loop-formats-init g c = known_ran (λ walk. rows_begin)
 pub loop-formats-preserved-in_default : goal.loop-formats-preserved-in_default
 loop-formats-preserved-in_default g c =
     let fast = c.run_fast-fast in
-    let row_format = c.args.self.now in
     let end = c.in_default.ensures.end refl in
-    known_ran (λ walk. row_begun {start = place walk 0} c.requires.known.1 end (c.row_follows.ensures.begins (search N.rules), refl)
-    (λ columns knows is. place_known row_format (place walk 0) fast.result.column 0 c.requires.known.0
-    (omega (arith, is.counted, knows.counted)) (omega arith) columns knows is)
+    known_ran (λ walk. row_begun {start = place walk 0} c.requires.known.1 end (grind arith)
+    (grind (arith, place_known))
     (rows_further fast.new.to _ (ran_at c.loop-formats.invariant walk) (ran_at fast.ensures.rows walk)))
 
 pub loop-formats-preserved : goal.loop-formats-preserved
@@ -22,17 +20,14 @@ loop-formats-preserved g c =
     let fast = c.run_fast-fast in
     let run = c.run_formats-run in
     let some = run.ensures.run.within.some (omega arith) in
-    let row_format = c.args.self.now in
     known_ran (λ walk. rows_more {cells = record { used = run.result.used; made = run.result.made; ahead = place walk (fast.result.column + run.result.cells) }}
     _ _ some (search arith) (search arith)
     (λ columns knows is. formats_between _ _ _ _ (omega arith) (c.in-Some.ensures.ahead walk) _ (N.sym (N.eq-eqb _ _ c.in-Some.ensures.whole)) _ knows is
-    _ _ _ run.result refl (place_known row_format (place walk 0) fast.result.column _ c.requires.known.0 (omega (arith, is.counted, knows.counted))
-    (omega (arith, run.ensures.run.within.cells, c.in-Some.ensures.whole)) columns knows is) run.ensures.run.cells)
+    _ _ _ run.result refl (grind (arith, place_known)) run.ensures.run.cells)
     (rows_further fast.new.to _ (ran_at c.loop-formats.invariant walk) (ran_at fast.ensures.rows walk)))
 
 pub returns-then-not-row_follows-clause-ends : goal.returns-then-not-row_follows-clause-ends
-returns-then-not-row_follows-clause-ends g c = λ walk columns column left knows ahead step. absurd (let e = N.sym step
-    ∙ N.RowFormatSteps.none_next _ _ knows.counted (c.in_default.ensures.end refl) in omega (arith, N.ap length e))
+returns-then-not-row_follows-clause-ends g c = λ walk columns column left knows ahead step. absurd (grind (arith, N.RowFormatSteps.none_next))
 
 pub returns-then-run-eq0-clause-ends : goal.returns-then-run-eq0-clause-ends
 returns-then-run-eq0-clause-ends g c = λ walk columns column left knows ahead step.
@@ -41,11 +36,10 @@ returns-then-run-eq0-clause-ends g c = λ walk columns column left knows ahead s
     let run = c.run_formats-run in
     let made = l.made + fast.result.made in
     let mid = put_mid l.made (length l.to - l.made) l.to fast.new.to in
-    let same = same_len_mid l.made (length l.to - l.made) l.to fast.new.to (search arith) in
     let left = first_left _ _ _ _ (omega arith) (c.in-Some.ensures.ahead walk) (run.ensures.run.ends c.if-run-eq0.true) _
     _ _ knows ahead step in
     let room : length (N.take (length mid - made) (N.drop made mid)) ≡ length c.args.to.now - made =
-    omega (arith, same, N.length-drop made mid) in
+    omega arith in
     rw room at (rw (N.all_after c.args.bytes.now _) at left)
 
 pub returns-then-not-row_follows-clause-rows : goal.returns-then-not-row_follows-clause-rows

@@ -17,19 +17,18 @@ loop-used-preserved g c =
     let known = c.requires.known in
     let run = c.in-Some-run_row.run' in
     let row = c.in-Some-run_row.ensures.row in
-    let whole : run.cells ≡ row_format.count = row.whole ∙ row_length row_format c.row-row.result.now known.0 c.row-row.ensures.row in
+    let whole : run.cells ≡ row_format.count = grind (arith, row_length) in
     record {
       same = search arith;
-      ran = known_ran (λ walk. row_begun {start = N.place walk 0} known.1 (omega arith) (c.begins_row.ensures.begins (search N.rules), N.refl)
-          (place_known row_format (N.place walk 0) row_format.count 0 known.0 (omega arith) (omega arith))
+      ran = known_ran (λ walk. row_begun {start = N.place walk 0} known.1 (omega arith) (grind arith)
+          (grind (arith, place_known))
           (row_far row_format c.row-row.result.now run c.run_row.new.to known.0 known.1 c.row-row.ensures.row whole c.run_row.ensures.kept
           (search (arith, N.rules)) row.begun (row.row row_format.charset) (ran_at l.invariant.ran walk)));
     }
 
 pub returns-in_default-run_row-clause-rows : goal.returns-in_default-run_row-clause-rows
 returns-in_default-run_row-clause-rows g c =
-    let ran = c.loop-used.invariant.ran in
-    known_ran (λ walk. rows_kept (search (arith, N.rules)) c.run_row.ensures.kept (ran_at ran walk))
+    known_ran (grind (arith, rows_kept, ran_at))
 
 pub returns-then-not-begins_row-clause-rows : goal.returns-then-not-begins_row-clause-rows
 returns-then-not-begins_row-clause-rows g c =
@@ -38,7 +37,7 @@ returns-then-not-begins_row-clause-rows g c =
     let known = c.requires.known in
     let run = c.in-Some-run_row.run' in
     let row = c.in-Some-run_row.ensures.row in
-    let all : N.length c.row-row.result.now ≡ row_format.count = row_length row_format c.row-row.result.now known.0 c.row-row.ensures.row in
+    let all : N.length c.row-row.result.now ≡ row_format.count = grind (arith, row_length) in
     let whole : run.cells ≡ row_format.count = row.whole ∙ all in
     rw (c.ended.ensures, all) (known_ran (λ walk.
     row_far row_format c.row-row.result.now run c.run_row.new.to known.0 known.1 c.row-row.ensures.row whole c.run_row.ensures.kept

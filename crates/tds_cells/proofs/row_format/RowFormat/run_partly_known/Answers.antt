@@ -6,9 +6,9 @@ pub loop-run-init : goal.loop-run-init
 loop-run-init c = rw c.none-run.ensures N.RowFormatRuns.rows_begin
 
 pub loop-run-preserved-then-is_end : goal.loop-run-preserved-then-is_end
-loop-run-preserved-then-is_end c = N.RowFormatRuns.row_begun c.requires.some (N.RowFormatSteps.all_before (sym c.if-is_end.true ∙ c.is_end.ensures))
-    (c.row_follows.ensures.begins (search N.rules), c.start.ensures.first)
-    (λ columns knows is. c.start.ensures.ahead columns knows) c.loop-run.invariant
+loop-run-preserved-then-is_end c = N.RowFormatRuns.row_begun c.requires.some (grind (arith, N.RowFormatSteps.all_before))
+    (grind arith)
+    (grind arith) c.loop-run.invariant
 
 pub loop-run-preserved : goal.loop-run-preserved
 loop-run-preserved c = N.RowFormatRuns.rows_more _ _ (omega arith) (search arith) (search arith)
@@ -26,5 +26,4 @@ returns-then-cells-eq0-clause-ends c = rw (c.run_cells-cells.ensures.within.stay
 
 pub returns-then-cells-eq0-clause-last : goal.returns-then-cells-eq0-clause-last
 returns-then-cells-eq0-clause-last c = λ end begins.
-    let before = sym c.is_end.ensures ∙ c.if-is_end.false in
-    grind (arith, N.eq-eqb _ _ end)
+    grind arith

@@ -11,6 +11,6 @@ returns-clause-ends c = elim c.if-self.branch [
 
 pub returns-clause-rows : goal.returns-clause-rows
 returns-clause-rows c = elim c.if-self.branch [
-  | then-self w ↦ rw (w.run-is, w.to-is) (ran_at w.run_known-run.ensures.rows c.args.at.now.walk)
-  | else-self w ↦ rw (w.run-is, w.to-is) (ran_at w.run_known-run-else-self.ensures.rows c.args.at.now.walk)
+  | then-self w ↦ rw (w.run-is, w.to-is) (grind (N.arith, ran_at))
+  | else-self w ↦ rw (w.run-is, w.to-is) (grind (N.arith, ran_at))
 ]

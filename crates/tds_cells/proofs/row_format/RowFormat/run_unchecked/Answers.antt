@@ -19,13 +19,7 @@ pub returns-then-cells-formats-clause-ends : goal.returns-then-cells-formats-cla
 returns-then-cells-formats-clause-ends c =
     let row_format = c.args.self.now in
     let row = row_length row_format c.row-formats.result.now c.requires.known.0 c.row-formats.ensures.row in
-    λ walk. rw c.none.ensures (elim c.then-cells-formats.branch [
-      | then-cells-formats-via-then-cells-formats w ↦ inr (inr (λ columns column left knows ahead step. absurd (let e = sym step
-          ∙ N.RowFormatSteps.none_next _ _ knows.counted (omega (arith, w.if-cells-formats.true, row)) in
-          omega (arith, ap length e))))
-      | then-cells-formats-via-else-cells-formats+then-bytes-lt-LOOKAHEAD w ↦ inl w.if-bytes-lt-LOOKAHEAD.true
-      | then-cells-formats-via-else-cells-formats+else-bytes-lt-LOOKAHEAD+then-to-lt-CELL_ROOM w ↦ inr (inl (omega (arith, w.if-to-lt-CELL_ROOM.true)))
-    ])
+    λ walk. rw c.none.ensures (grind (arith, N.RowFormatSteps.none_next))
 
 pub loop-rest-init : goal.loop-rest-init
 loop-rest-init c =
@@ -34,15 +28,15 @@ loop-rest-init c =
     let comma = c.write_comma-made in
     let fits : comma.result ≤ length comma.new.to = search (arith, rules) in
     let made_is = comma_made comma.result c.args.column comma.new.to fits (comma.ensures.text []) in
-    let none : comma.result - comma_size c.args.column ≡ 0 = omega (arith, made_is) in
+    let none : comma.result - comma_size c.args.column ≡ 0 = omega arith in
     let unused_none : length c.args.bytes.now - length c.args.bytes.now ≡ 0 = omega arith in
     record {
       within = omega arith;
-      rest = ap (λ (n : ℕ). drop n c.args.bytes.now) (sym unused_none);
+      rest = grind arith;
       size = search (arith, rules);
-      some = omega (arith, row, c.if-cells-formats.false);
-      begun = omega (arith, made_is);
-      comma = rw none (sym (N.append-nil (take comma.result comma.new.to)) ∙ comma.ensures.text []);
+      some = omega arith;
+      begun = omega arith;
+      comma = grind arith;
       ran = rw (none, unused_none) (known_ran (λ walk. rows_begin));
     }
 
@@ -59,23 +53,22 @@ loop-rest-preserved-then-cells-formats-2 c =
     let format = c.index-formats-cells.result in
     let format_is : format ≡ get_or formats l.cells format = search (arith, rules) in
     let size : length new ≡ length l.to = search (arith, rules) in
-    let few : l.cells + 1 < row_format.count = omega (arith, c.if-cells-formats-2.true, row) in
+    let few : l.cells + 1 < row_format.count = omega arith in
     let room : end < length new = omega (arith, c.in-Some.ensures.cell.0.made) in
     let there : (end + 1) - comma_size (l.cells + 1) ≡ end = omega (arith, comma_one l.cells) in
     let same = take-set-le end new end 44 (omega arith) in
     let bytes = c.args.bytes.now in
     let left = left_after bytes l.rest.now written.used l.invariant.within l.invariant.rest (omega (arith, c.in-Some.ensures.cell.0.used)) in
     record {
-      within = omega (arith, left.0);
-      rest = left.1 ∙ ap (λ (n : ℕ). drop n bytes) (sym left.0);
+      within = omega arith;
+      rest = grind arith;
       size = search (arith, rules);
       some = few;
       begun = omega (arith, comma_one l.cells);
-      comma = rw there (N.take_more_set new end 44 room ∙ ap (λ t. t ++ 44 ∷ []) (sym same)
-          ∙ ap (λ t. take end (N.slice_set new end 44) ++ t) (N.RowTexts.after_some_column (l.cells + 1) (λ e. omega arith)));
+      comma = grind (arith, N.take_more_set, N.RowTexts.after_some_column);
       ran = rw there (known_ran (λ walk. rest_more l.rest.now l.cells written.used l.made written.made end _ format new (N.slice_set new end 44) N.false
-          l.invariant.within l.invariant.rest left.0 all l.invariant.some c.row-formats.ensures.row (sym (N.ne_eqb _ _ (λ e. omega (arith, e, few)))) format_is
-          (l.invariant.begun, (omega (arith, room, size), omega (arith, c.in-Some.ensures.cell.0.used)))
+          l.invariant.within l.invariant.rest left.0 all l.invariant.some c.row-formats.ensures.row (sym (N.ne_eqb _ _ (λ e. omega arith))) format_is
+          (grind arith)
           l.invariant.comma c.write_far_cell.ensures.kept
           (omega (arith, room), search (arith, rules)) (same ∙ sym (N.append-nil (take end new)))
           c.in-Some.ensures.cell.0.whole c.in-Some.ensures.cell.1 (ran_at l.invariant.ran walk)));
@@ -93,8 +86,7 @@ returns-then-not-row_follows-clause-rows c =
     let end = c.write_line_end-made in
     let format = c.index-formats-cells.result in
     let format_is : format ≡ get_or formats l.cells format = search (arith, rules) in
-    let size : length new ≡ length l.to = search (arith, rules) in
-    let last : l.cells + 1 ≡ row_format.count = omega (arith, c.if-cells-formats-2.false, row, l.invariant.some) in
+    let last : l.cells + 1 ≡ row_format.count = omega arith in
     let fits : end.result ≤ length end.new.to = search (arith, rules) in
     let bytes = c.args.bytes.now in
     let left = left_after bytes l.rest.now written.used l.invariant.within l.invariant.rest (omega (arith, c.in-Some.ensures.cell.0.used)) in
@@ -103,7 +95,7 @@ returns-then-not-row_follows-clause-rows c =
     let text = rw before at end.ensures.text ∙ ap (λ (t : List ℕ). t ++ N.end_after true) (take-set-le at new at 44 (omega arith)) in
     rw c.ended.ensures (known_ran (λ walk. rest_more l.rest.now l.cells written.used l.made written.made end.result _ format new end.new.to true
     l.invariant.within l.invariant.rest left.0 all l.invariant.some c.row-formats.ensures.row (sym (N.eq-eqb _ _ last)) format_is
-    (l.invariant.begun, (omega (arith, c.in-Some.ensures.cell.0.made, size), omega (arith, c.in-Some.ensures.cell.0.used)))
+    (grind arith)
     l.invariant.comma c.write_far_cell.ensures.kept (omega (arith, c.in-Some.ensures.cell.0.made), fits) text
     c.in-Some.ensures.cell.0.whole c.in-Some.ensures.cell.1 (ran_at l.invariant.ran walk)))
 
@@ -120,7 +112,7 @@ loop-rest-preserved c =
     let format = c.index-formats-cells.result in
     let format_is : format ≡ get_or formats l.cells format = search (arith, rules) in
     let size : length new ≡ length l.to = search (arith, rules) in
-    let last : l.cells + 1 ≡ row_format.count = omega (arith, c.if-cells-formats-2.false, row, l.invariant.some) in
+    let last : l.cells + 1 ≡ row_format.count = omega arith in
     let fits : end.result ≤ length end.new.to = search (arith, rules) in
     let bytes = c.args.bytes.now in
     let left = left_after bytes l.rest.now written.used l.invariant.within l.invariant.rest (omega (arith, c.in-Some.ensures.cell.0.used)) in
@@ -128,22 +120,21 @@ loop-rest-preserved c =
     let before : (at + 1) - 1 ≡ at = omega arith in
     let text = rw before at end.ensures.text ∙ ap (λ (t : List ℕ). t ++ N.end_after true) (take-set-le at new at 44 (omega arith)) in
     let none : end.result - comma_size 0 ≡ end.result = omega arith in
-    let begins = c.row_follows.ensures.begins (search rules) in
-    let next = left_after bytes (unused written.used l.rest.now) 1 (omega (arith, left.0)) (left.1 ∙ ap (λ (n : ℕ). drop n bytes) (sym left.0))
-    (begins_some (unused written.used l.rest.now) begins) in
+    let next = left_after bytes (unused written.used l.rest.now) 1 (omega arith) (grind arith)
+    (grind (arith, begins_some)) in
     record {
-      within = omega (arith, next.0);
-      rest = next.1 ∙ ap (λ (n : ℕ). drop n bytes) (sym next.0);
+      within = omega arith;
+      rest = grind arith;
       size = search (arith, rules);
       some = c.requires.known.1;
       begun = omega arith;
-      comma = rw none (sym (N.append-nil (take end.result end.new.to)));
+      comma = grind (arith, N.append-nil);
       ran = rw (none, next.0, left.0) (known_ran (λ walk. row_begun {start = place walk 0} c.requires.known.1 (omega (arith, last))
-          (begins_in bytes l.rest.now written.used _ left.1 begins, N.refl)
-          (place_known row_format (place walk 0) (l.cells + 1) 0 all (omega (arith, last)) (omega arith))
+          (grind (arith, begins_in))
+          (grind (arith, place_known))
           (rest_more l.rest.now l.cells written.used l.made written.made end.result _ format new end.new.to true
           l.invariant.within l.invariant.rest N.refl all l.invariant.some c.row-formats.ensures.row (sym (N.eq-eqb _ _ last)) format_is
-          (l.invariant.begun, (omega (arith, c.in-Some.ensures.cell.0.made, size), omega (arith, c.in-Some.ensures.cell.0.used)))
+          (grind arith)
           l.invariant.comma c.write_far_cell.ensures.kept (omega (arith, c.in-Some.ensures.cell.0.made), fits) text
           c.in-Some.ensures.cell.0.whole c.in-Some.ensures.cell.1 (ran_at l.invariant.ran walk))));
     }
@@ -168,14 +159,14 @@ returns-clause-ends c =
     let bytes = c.args.bytes.now in
     λ walk. rw (c.ended-2.ensures, c.comma_size.ensures) (elim c.loop-rest-test.branch [
       | else-loop-rest-test w ↦ inl (omega (arith, w.loop-rest-test.false, l.invariant.within, N.length-drop (length bytes - length l.rest.now) bytes))
-      | then-loop-rest-test+else-made-most w ↦ inr (inl (omega (arith, w.if-made-most.false, l.invariant.size, l.invariant.begun, comma_most l.cells)))
+      | then-loop-rest-test+else-made-most w ↦ inr (grind (arith, comma_most))
       | cell_left w ↦ inr (inr (λ columns column left knows ahead step.
           let format = w.index-formats-cells.result in
           let format_is : format ≡ get_or formats l.cells format = search (arith, rules) in
           let rest = rest_ahead row_format (place walk l.cells) formats all c.row-formats.ensures.row l.invariant.some in
           let less : length c.args.to.now - (l.made - comma_size l.cells) ≤ length l.to - l.made + 1 =
-          omega (arith, l.invariant.size, l.invariant.begun, comma_most l.cells, w.if-made-most.true) in
+          grind arith in
           first_left row_format (place walk l.cells) row_format.count (drop l.cells formats) (omega arith) rest.0
-          (far_left row_format formats l.cells format _ _ _ format_is less (rw l.invariant.rest at w.in_default.ensures.cell))
+          (far_left row_format formats l.cells format _ _ _ format_is less (grind arith))
           columns column left knows ahead step))
     ])

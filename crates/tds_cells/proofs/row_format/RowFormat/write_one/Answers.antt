@@ -12,4 +12,4 @@ pub returns : goal.returns
 returns c =
     let run = c.run_formats-run.ensures.run in
     let one = rw (and-true _, c.is_last.ensures) at (run.one (omega N.arith) _ [] N.refl) in
-    record { cell = (record { whole = one.0; used = run.within.used; made = run.within.made }, one.1) }
+    record { cell = grind N.arith }

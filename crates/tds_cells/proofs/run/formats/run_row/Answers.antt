@@ -7,19 +7,19 @@ use Rattle.tds_values.specs.declared.charset.Charset.TheVariants.{Windows1252}
 pub overflow_sub-run : goal.overflow_sub-run
 overflow_sub-run g c =
     let x = c.write_numbers-run.ensures.fields Windows1252 in
-    omega (arith, (x.room (omega (arith, c.if-run-formats.false, c.requires.some))).0)
+    omega (arith, (x.room (omega arith)).0)
 
 pub write_line_end-made-requires : goal.write_line_end-made-requires
 write_line_end-made-requires g c =
     let run = c.write_numbers-run in
     let x = run.ensures.fields Windows1252 in
-    omega (arith, x.room (omega (arith, c.if-run-formats.false, c.requires.some)), run.auto.to, N.length-drop c.args.from.made run.new.to)
+    omega (arith, x.room (omega arith), run.auto.to, N.length-drop c.args.from.made run.new.to)
 
 pub returns-clause-kept : goal.returns-clause-kept
 returns-clause-kept g c =
     let run = c.write_numbers-run in
     let end = c.write_line_end-made in
-    let x = ended_run c.args.from.made end.result run.result.made run.new.to end.new.to _ (omega (arith, c.if-run-formats.false, c.requires.some))
+    let x = ended_run c.args.from.made end.result run.result.made run.new.to end.new.to _ (omega arith)
     (run.ensures.fields Windows1252) run.ensures.begun.1 end.ensures.most end.auto.to end.ensures.text in
     x.1.0 ∙ run.ensures.kept
 
@@ -30,16 +30,15 @@ returns-clause-row g c =
     let end = c.write_line_end-made in
     let wrote = run.ensures.fields in
     let all : run.result.cells ≡ N.length c.args.formats.now = omega (arith, (wrote Windows1252).within.cells, c.if-run-formats.false) in
-    let some : 0 < run.result.cells = omega (arith, all, c.requires.some) in
+    let some : 0 < run.result.cells = omega arith in
     let x = ended_run at end.result run.result.made run.new.to end.new.to _ some (wrote Windows1252) run.ensures.begun.1 end.ensures.most end.auto.to
     end.ensures.text in
     record {
       whole = all;
       left = run.ensures.left;
       begun = (run.ensures.begun.0, x.0.0);
-      most = omega (arith, x.0.1, end.auto.to, run.auto.to);
-      row = λ charset. fields_run _ _ _ some (wrote charset) (omega (arith, x.0, end.auto.to, run.auto.to)) (x.1.1
-          ∙ N.ap (λ v. N.take ((run.result.made - at) - 1) (N.drop at run.new.to) ++ N.end_after v) (N.sym (N.eq-eqb _ _ all)));
+      most = omega arith;
+      row = λ charset. fields_run _ _ _ some (wrote charset) (omega arith) (grind (arith, N.eq-eqb));
     }
 
 pub returns-then-run-formats-clause-row : goal.returns-then-run-formats-clause-row
@@ -49,5 +48,5 @@ returns-then-run-formats-clause-row g c =
       run = N.run_since c.args.from run.result;
       few = c.if-run-formats.true;
       fields = λ charset. let x = (run.ensures.fields charset).fields in (x.0, x.1);
-      next = run.ensures.ends c.if-run-formats.true;
+      next = grind arith;
     }

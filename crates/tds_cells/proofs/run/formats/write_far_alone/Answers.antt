@@ -9,7 +9,7 @@ returns-in_err-written-clause-kept c =
     let start = at + c.write_comma.result in
     let before : at ≤ start = omega arith in
     let within : at ≤ N.length c.args.to.now = search (arith, rules) in
-    N.sym (take-take at start c.write_far_cell.new.to before) ∙ ap (N.take at) c.write_far_cell.ensures.kept ∙ take-take at start _ before
+    N.sym (grind (arith, take-take)) ∙ ap (N.take at) c.write_far_cell.ensures.kept ∙ take-take at start _ before
     ∙ N.take-append-le at (N.take at c.args.to.now) _ (omega (arith, N.length-take-le at c.args.to.now within)) ∙ take-take at at c.args.to.now (omega arith)
 
 pub overflow_sub-result : goal.overflow_sub-result
@@ -38,7 +38,7 @@ returns-clause-cell c =
     let x = line_beyond c.args.at comma.result _ end.result c.args.to.now comma.new.to _ cell.new.to end.new.to _ (search (arith, rules))
     cell.ensures.kept end.ensures.text in
     let line = x.1.1 ∙ ap (λ l. l ++ N.end_after c.args.last) (comma.ensures.text _) in
-    (grind arith, rw line (c.in_ok-written.ensures.cell.1 c.args.column c.args.last))
+    (grind arith, rw line (grind arith))
 
 pub returns-in_err-written-clause-cell : goal.returns-in_err-written-clause-cell
 returns-in_err-written-clause-cell c = grind (arith, left_less)

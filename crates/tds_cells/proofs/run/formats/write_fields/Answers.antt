@@ -19,8 +19,8 @@ loop-cells-preserved c =
     let wrote = rw format_is at (rw (sym now) at c.in-Some.ensures.cell.1) in
     let left = left_after bytes rest written.used l.invariant.within l.invariant.rest (search (arith, rules)) in
     record {
-      within = omega (arith, left.0);
-      rest = left.1 ∙ ap (λ (n : ℕ). N.drop n bytes) (sym left.0);
+      within = omega arith;
+      rest = grind arith;
       at = fields_step written.used written.made format l.invariant.at left.0 (search (arith, rules)) c.loop-cells-test.true (search (arith, rules))
           (search (arith, rules)) whole;
       writes = fields_more c.args.charset formats c.args.column bytes l.to c.write_cell.new.to _ l.cells _ written.used _ l.made
@@ -32,11 +32,8 @@ returns-clause-ends c = λ none format rest is. elim c.loop-cells-test.branch [
   | then-loop-cells-test+else-made-most w ↦ grind arith
   | else-loop-cells-test w ↦ grind arith
   | left w ↦ (let l = c.loop-cells in
-      let bytes = c.args.bytes.now in
       let begun = l.invariant.at.begun none in
-      let all : l.rest.now ≡ bytes = l.invariant.rest ∙ ap (λ (n : ℕ). N.drop n bytes) begun.0 in
-      let first : w.index-formats-cells.result ≡ format = grind arith in
-      N.inr (left_less c.args.charset format.kind bytes (grind arith) (rw first at (rw all at w.in_default.ensures.cell))))
+      N.inr (grind (arith, left_less)))
 ]
 
 pub returns-clause-left : goal.returns-clause-left
@@ -49,5 +46,5 @@ returns-clause-left c = λ format rest is. elim c.loop-cells-test.branch [
       let here : taken ≡ get_or formats l.cells taken = search (arith, rules) in
       let place : l.cells ≡ l.cells + 0 = omega arith in
       let first = here ∙ ap (λ (n : ℕ). get_or formats n taken) place ∙ sym (get_or-drop l.cells formats 0 taken) ∙ ap (λ f. get_or f 0 taken) is in
-      N.inr (left_less c.args.charset format.kind _ (search (arith, rules)) (rw first at (rw l.invariant.rest at w.in_default.ensures.cell))))
+      N.inr (grind (arith, left_less)))
 ]
