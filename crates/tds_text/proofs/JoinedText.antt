@@ -32,11 +32,11 @@ joined_at source at n there few = run_joins 16 (drop at source) n (grind (arith,
 
 -- the text after a byte of ASCII, and after a character of two bytes
 after_one : (a : ℕ) (text : List ℕ) → N.is_plain a ≡ true → IsUtf8 text × (doubled text ≡ text) → IsUtf8 (a ∷ text) × (doubled (a ∷ text) ≡ a ∷ text)
-after_one a text plain more = (N.IsUtf8-append (a ∷ []) text (N.Singles.one_utf8 a (grind arith)) more.0, grind (arith, more.1))
+after_one a text plain more = (N.IsUtf8-append (a ∷ []) text (N.Singles.one_utf8 a (grind arith)) more.0, grind arith)
 
 after_two : (a b : ℕ) (text : List ℕ) → is_lead a ≡ true → is_trail b ≡ true → IsUtf8 text × (doubled text ≡ text)
     → IsUtf8 (a ∷ b ∷ text) × (doubled (a ∷ b ∷ text) ≡ a ∷ b ∷ text)
-after_two a b text lead trail more = (N.IsUtf8-append (a ∷ b ∷ []) text (grind (arith, N.Utf8Laws.two_bytes)) more.0, grind (arith, more.1))
+after_two a b text lead trail more = (N.IsUtf8-append (a ∷ b ∷ []) text (grind (arith, N.Utf8Laws.two_bytes)) more.0, grind arith)
 
 -- whole bytes of it, the last of which begins no character of two bytes
 joined_text : (n : ℕ) (xs : List ℕ) → AreJoined n xs → is_trail (get_or xs 0 0) ≡ false → ((k : ℕ) → n ≡ suc k → is_lead (get_or xs k 0) ≡ false)

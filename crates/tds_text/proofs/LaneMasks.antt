@@ -144,7 +144,7 @@ first_kept n m us long fits = grind arith
 
 -- a row of the table has the bits of so many units
 first_row : (n : ℕ) → n < 9 → N.get_or N.FIRST n [] ≡ N.replicate n 65535 ++ N.replicate (8 - n) 0
-first_row = grind (arith, N.bytes_eq-Decides, N.agree_below_at)
+first_row = grind arith
 
 pub first_of : (n : ℕ) (us : List ℕ) {row : List ℕ} → length us ≡ 8 → n ≤ 8 → Each1 (Fits N.w16) us → row ≡ N.get_or N.FIRST n []
     → (take n (zip2 N.bit_and us row) ≡ take n us) × (drop n (zip2 N.bit_and us row) ≡ N.replicate (8 - n) 0)
@@ -173,12 +173,6 @@ seconds [] (y ∷ ys) same = grind arith
 seconds (x ∷ xs) [] same = grind arith
 seconds (x ∷ xs) (y ∷ ys) same = ap (λ l. y ∷ l) (seconds xs ys (omega arith))
 
--- a lane of four tests of a byte and the next one: whether it is a quote, is high or begins a character, and whether the next goes on
-lane_stops : (quote high lead trail : Bool)
-    → top 7 (N.bit_or (N.bit_or (N.cond quote 255 0) (bit_xor (N.cond high 255 0) (N.cond lead 255 0))) (bit_xor (N.cond lead 255 0) (N.cond trail 255 0)))
-    ≡ (quote || (N.cond high (not lead) lead || N.cond lead (not trail) trail))
-lane_stops = grind arith
-
 -- so it stops just where a byte and the next one don't go on with a text of characters of one and two bytes
 pub pair_stops : (a b : ℕ) → a < 256 → b < 256 → not (top 7 (N.bit_or
     (N.bit_or (N.cond (N.eqb a 34) 255 0) (bit_xor (N.cond (N.leb 192 a) 255 0) (N.cond (ltb ((a + 62) % 256) 30) 255 0)))
@@ -186,7 +180,7 @@ pub pair_stops : (a b : ℕ) → a < 256 → b < 256 → not (top 7 (N.bit_or
 pair_stops a b small little =
     let lead : ltb ((a + 62) % 256) 30 ≡ is_lead a = grind arith in
     let trail : ltb ((b + 128) % 256) 64 ≡ is_trail b = grind arith in
-    grind (arith, lane_stops)
+    grind arith
 
 -- two bytes
 ArePair : ℕ × ℕ → Type 0
@@ -223,7 +217,7 @@ none_joined : (a : ℕ) (xs : List ℕ) → N.fold_l N.bit_or a xs ≡ 0 → (a 
 none_joined a [] none = (none, tt)
 none_joined a (x ∷ xs) none =
     let more = none_joined (N.bit_or a x) xs none in
-    ((omega (arith, more.0, le_or_l a x)), ((omega (arith, more.0, le_or_r a x)), more.1))
+    (grind (arith, le_or_l, le_or_r))
 
 -- a unit that has none of the high bits is short
 short_unit : (u : ℕ) → u < 65536 → N.bit_and u 63488 ≡ 0 → N.is_long u ≡ false

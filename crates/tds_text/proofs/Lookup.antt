@@ -25,8 +25,7 @@ placed width at (ks ∷ kss) = map (λ k. at + k) ks ++ placed width (at + width
 one_lane : (front lane more ks : List ℕ) → Each1 (λ k. k < length lane) ks
     → map (λ j. get_or (front ++ (lane ++ more)) j 0) (map (λ k. length front + k) ks) ≡ map (λ k. get_or lane k 0) ks
 one_lane front lane more [] each = refl
-one_lane front lane more (k ∷ ks) each = ap₂ (λ x xs. x ∷ xs) (get_or-append-add front (lane ++ more) k 0
-    ∙ get_or_append_left lane more 0 k each.0) (one_lane front lane more ks each.1)
+one_lane front lane more (k ∷ ks) each = ap₂ (λ x xs. x ∷ xs) (grind (arith, get_or-append-add, get_or_append_left)) (one_lane front lane more ks each.1)
 
 module _ (size : ℕ) (lane places : ℕ → List ℕ) (wide : (u : ℕ) → length (lane u) ≡ size) (inside : (u : ℕ) → Each1 (λ k. k < length (lane u)) (places u)) where
   -- the bytes of lanes after others
@@ -195,7 +194,7 @@ four_each a b c d sa sb sc sd =
     let fb = split b sb in
     let fc = split c sc in
     let fd = split d sd in
-    ap (λ bs. take 12 (woven bs)) (bytes_of_pairs 8 (four a b c d) refl (fa.3, (fa.4, (fb.3, (fb.4, (fc.3, (fc.4, (fd.3, (fd.4, tt))))))))) ∙ (cc)
+    ap (λ bs. take 12 (woven bs)) (bytes_of_pairs 8 (four a b c d) refl (grind arith)) ∙ (cc)
 
 -- eight of them, each lane beside the other
 abbrev pub beside_first : List ℕ → List ℕ → List ℕ
@@ -215,12 +214,8 @@ quad_each : (a b c d : ℕ) → a < 65536 → b < 65536 → c < 65536 → d < 65
     → digits_l 256 16 (number_l 65536 (low_quad a ∷ high_quad a ∷ low_quad b ∷ high_quad b ∷ low_quad c ∷ high_quad c ∷ low_quad d ∷ high_quad d
     ∷ [])) ≡ flat_map N.quad_bytes (a ∷ b ∷ c ∷ d ∷ [])
 quad_each a b c d sa sb sc sd =
-    let fa = (pair_fits a sa).1 in
-    let fb = (pair_fits b sb).1 in
-    let fc = (pair_fits c sc).1 in
-    let fd = (pair_fits d sd).1 in
     bytes_of_pairs 8 (low_quad a ∷ high_quad a ∷ low_quad b ∷ high_quad b ∷ low_quad c ∷ high_quad c ∷ low_quad d ∷ high_quad d ∷ []) refl
-    (fa.0, (fa.1, (fb.0, (fb.1, (fc.0, (fc.1, (fd.0, (fd.1, tt))))))))
+    (grind arith)
 
 -- and of eight
 pub quad_lanes : (us ls hs : List ℕ) → length us ≡ 8 → Each1 (Fits w16) us → ls ≡ map low_quad us → hs ≡ map high_quad us

@@ -65,7 +65,7 @@ pub unfit_adds_none : (c : Conversion) (d : List ℕ) (x : ℕ) → N.is_fit c (
     → emit (N.conversion_rest c) (N.conversion_text c) (d ++ x ∷ []) ≡ emit (N.conversion_rest c) (N.conversion_text c) d
 unfit_adds_none N.HexDigits d x unfit = cc
 unfit_adds_none N.Utf16Text d x unfit =
-    let same = odd_front d x (grind (arith, fit_by_test)) in
+    let same = odd_front d x (grind arith) in
     rw (utf16_laws.emit-front, utf16_laws.emit-front, same) refl
 unfit_adds_none N.Windows1252Text d x unfit = cc
 unfit_adds_none N.Utf8Text d x unfit =

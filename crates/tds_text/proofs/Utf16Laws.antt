@@ -20,9 +20,6 @@ Apart [] vs = ⊤
 Apart (u ∷ []) vs = (N.is_high_surrogate u && starts_low vs) ≡ false
 Apart (u ∷ v ∷ us) vs = Apart (v ∷ us) vs
 
-Apart-tail : (v : ℕ) (us vs : List ℕ) → Apart (v ∷ us) vs → Apart us vs
-Apart-tail = grind arith
-
 -- the characters of units that are cut where no pair lies
 pub chars-apart : (us vs : List ℕ) → Apart us vs → utf16_chars (us ++ vs) ≡ utf16_chars us ++ utf16_chars vs
 unfolding utf16_chars starts_low

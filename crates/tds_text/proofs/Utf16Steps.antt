@@ -81,7 +81,7 @@ next_pair low high low' high' bytes h l =
     record {
       emits = emits_by (low ∷ high ∷ low' ∷ high' ∷ bytes) bytes (N.surrogate_pair_char (low + 256 * high) (low' + 256 * high'))
           (grind (arith, front_step, spells_pair, front));
-      keeps = grind (arith, rest_step);
+      keeps = grind arith;
       spells = grind (arith, spells_pair);
     }
 

@@ -251,11 +251,6 @@ is_second x y = N.is_in_range (second_byte_min x) (second_byte_max x) y
 abbrev is_next : ℕ → Bool
 is_next z = N.is_in_range 0x80 0xBF z
 
-fault_four : (x y z w : ℕ) (t : List ℕ) → utf8_error_len (x ∷ y ∷ z ∷ w ∷ t) ≡ cond (is_first x)
-    (cond (is_second x y) (cond (is_next z) (Some 3) (Some 2)) (Some 1)) (Some 1)
-unfolding utf8_error_len
-fault_four = grind (arith, nat_tests)
-
 -- so many bytes of these could begin a character, and with the next one they can't
 record Good (r : List ℕ) (j : ℕ) : Type 0 where
   within : j < length r

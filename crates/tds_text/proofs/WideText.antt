@@ -37,12 +37,6 @@ text_size : (us : List ℕ) {wide long : ℕ} → Each1 (λ u. u < 65536) us →
     → length (units_text us) ≡ length us + (count_ones wide + count_ones long)
 text_size = grind (arith, N.ones-mask_l, units_size)
 
-in_pair : (wide long : Bool) → Each1 (λ k. k < 2) (pair_places wide long)
-in_pair = grind arith
-
-in_quad : (wide long : Bool) → Each1 (λ k. k < 4) (quad_places wide long)
-in_quad = grind arith
-
 -- units are numbers of 16 bits
 unit_range : (us : List ℕ) → Each1 (Fits w16) us → Each1 (λ u. u < 65536) us
 unit_range = N.below_from_Fits w16
@@ -69,11 +63,8 @@ row_taken : (width m : ℕ) (lane : ℕ → List ℕ) (f : Bool → Bool → Lis
     → flat_map (λ u. map (λ k. get_or (lane u) k 0) (f (is_wide u) (is_long u))) us ≡ units_text us
     → take (length us + (count_ones wide + count_ones long)) (map (λ j. get_or xs j 0) row) ≡ units_text us
 row_taken width m lane f same inside us more {row} {wide} {long} is_row few is wide_is long_is range texts =
-    let places = λ (u : ℕ). f (is_wide u) (is_long u) in
     let begins = N.Lookup.row_begins f width 0 m (map is_wide us) (map is_long us) (grind (arith, N.length-map)) (grind (arith, N.length-map)) in
-    let rest = drop (length (placed width 0 (zip2 f (bits m wide) (bits m long)))) row in
-    rw (← text_size us range wide_is long_is) (N.Lookup.gathered_text width lane places same inside unit_text us more (begins.0 ++ rest)
-    (grind (arith, N.zip2-map, N.append_assoc, placed)) is texts)
+    rw (← text_size us range wide_is long_is) (grind (arith, N.Lookup.gathered_text, N.zip2-map, N.append_assoc, placed))
 
 -- that of short characters from the bytes of eight
 pub pairs_taken : (us : List ℕ) (n : ℕ) {xs : List ℕ} {wide : ℕ} → length us ≡ 8 → n ≤ 8 → Each1 (Fits w16) us → xs ≡ flat_map N.pair_bytes us
@@ -83,7 +74,7 @@ pairs_taken us n {wide} eight few fits bytes is short =
     let vs = take n us in
     let counted : length vs ≡ n = N.length-take-le n us (omega arith) in
     let size : length vs + (count_ones wide + count_ones 0) ≡ n + count_ones wide = omega (arith, N.ones-mask_l is_long []) in
-    rw size at (row_taken 2 8 N.pair_bytes pair_places (λ u. refl) (grind (arith, in_pair)) vs (flat_map N.pair_bytes (drop n us))
+    rw size at (row_taken 2 8 N.pair_bytes pair_places (λ u. refl) (grind arith) vs (flat_map N.pair_bytes (drop n us))
     (N.Lookup.pair_row wide (first_mask is_wide us n eight few is).0)
     (omega arith) (bytes ∙ split_lanes N.pair_bytes n us) is (sym (none_set is_long vs short)) (unit_range vs (each_taken (Fits w16) n us fits))
     (same_texts pair_text vs short))
@@ -93,7 +84,7 @@ pub quads_taken : (us more : List ℕ) {xs : List ℕ} {wide long : ℕ} → len
     → wide ≡ mask_l (map is_wide us) → long ≡ mask_l (map is_long us) → Each1 (λ u. u < 65536) us
     → take (length us + count_ones (wide + 16 * long)) (map (λ j. get_or xs j 0) (get_or N.QUADS (wide + 16 * long) [])) ≡ units_text us
 quads_taken us more {wide} {long} few small small' is wide_is long_is range =
-    rw (← (N.Lookup.ones_of_two wide long small small').0) at (row_taken 4 4 quad_bytes quad_places (λ u. refl) (grind (arith, in_quad)) us more
+    rw (← (N.Lookup.ones_of_two wide long small small').0) at (row_taken 4 4 quad_bytes quad_places (λ u. refl) (grind arith) us more
     (N.Lookup.quad_row wide long small small') few is wide_is long_is range (same_texts quad_text us range))
 
 take_both : (n m : ℕ) (us : List ℕ) → take n (take m us) ≡ take m (take n us)
@@ -126,8 +117,8 @@ module _ (us : List ℕ) (n : ℕ) {old new xs : List ℕ} {at end m wide long :
   all_added many counted ys_is more =
       let vs = take n us in
       let size = N.length-take-le n us (omega arith) in
-      let first = first_added (grind (arith, N.length-take)) in
-      let others = more.adds (drop 4 vs) (flat_map quad_bytes (drop (n - 4) (drop 4 us))) (grind (arith, N.length-drop))
+      let first = first_added (grind arith) in
+      let others = more.adds (drop 4 vs) (flat_map quad_bytes (drop (n - 4) (drop 4 us))) (grind arith)
       (grind (arith, N.drop-take, split_lanes)) (last_lanes is_wide vs wide_is)
       (last_lanes is_long vs long_is) (grind (arith, each_left, each_taken, unit_range)) in
       grind (arith, N.append_assoc, split_lanes)
@@ -160,7 +151,7 @@ module _ (us low old new : List ℕ) (at n : ℕ) (fits : Each1 (Fits w16) us) (
       let back : take k high ≡ take k (drop 12 (triples us)) =
       rw (← N.take-take k 12 high (omega arith), high_is, N.take-take k 12 (drop 12 (triples us)) (omega arith)) refl in
       let joined : take 12 (triples us) ++ take k (drop 12 (triples us)) ≡ units_text (take n us) =
-      sym (N.take-add 12 k (triples us)) ∙ rw all (long_texts n us (unit_range us fits) long) in
+      grind (arith, N.take-add, long_texts, unit_range) in
       grind (arith, N.append_assoc)
 
 -- the low bytes of characters of ASCII are their text
@@ -186,10 +177,6 @@ pub length-units : (xs : List ℕ) → length (units xs) ≡ length xs / 2
 length-units [] = grind arith
 length-units (low ∷ []) = grind arith
 length-units (low ∷ high ∷ xs) = let more = length-units xs in grind arith
-
--- so 16 bytes are eight
-eight_units : (ys : List ℕ) {us : List ℕ} → length ys ≡ 16 → us ≡ units ys → length us ≡ 8
-eight_units = grind (arith, length-units)
 
 -- the first of eight are characters of ASCII, and were written
 pub plain_added : (ys old new kept : List ℕ) {us low : List ℕ} {at : ℕ} (n : ℕ) → length ys ≡ 16 → n ≤ 8 → at ≤ length old → us ≡ units ys

@@ -6,14 +6,13 @@ use N.WideText.{each_taken, no_other}
 
 pub put_triples-requires-clause-long : goal.put_triples-requires-clause-long
 put_triples-requires-clause-long c = N.Each1-weaker _ _ (λ u h. (no_other u h).0) _
-    (none_of_first N.is_other c.args.units c.args.n c.other_units.ensures c.lowest.ensures c.if-lowest-eq0.true)
+    (grind (N.arith, none_of_first))
 
 pub returns-then-lowest-eq0 : goal.returns-then-lowest-eq0
 returns-then-lowest-eq0 c = record {
   most = omega N.arith;
   written = c.put_triples.ensures;
-  single = N.Each1-weaker _ _ (λ u h. (no_other u h).1) _
-      (none_of_first N.is_other c.args.units c.args.n c.other_units.ensures c.lowest.ensures c.if-lowest-eq0.true);
+  single = grind (N.arith, N.Each1-weaker, no_other, none_of_first);
 }
 
 pub put_mixed-requires-clause-wide : goal.put_mixed-requires-clause-wide
@@ -27,5 +26,5 @@ returns c = record {
   most = c.put_mixed.ensures.most;
   written = c.put_mixed.ensures.written;
   single = each_taken _ c.args.n c.args.units
-      (none_passes N.is_half c.args.units (N.sym c.surrogate_units.ensures ∙ c.if-surrogate_units-ne0.false));
+      (none_passes N.is_half c.args.units (grind N.arith));
 }

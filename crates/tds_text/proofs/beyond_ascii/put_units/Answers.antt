@@ -12,8 +12,7 @@ put_pairs-requires-clause-wide c = N.LaneMasks.zeros_after N.is_wide c.args.n _ 
 
 pub returns : goal.returns
 returns c = record {
-  most = omega (N.arith, c.put_pairs.ensures.most);
-  written = rw (c.first_units-units.ensures.first, c.units_of.ensures) at c.put_pairs.ensures.written;
-  single = rw (c.first_units-units.ensures.first, c.units_of.ensures) at
-      (N.Each1-weaker _ _ N.WideText.no_half _ (N.WideText.each_taken _ c.args.n _ (c.if-has_long.ensures N.refl)));
+  most = omega N.arith;
+  written = grind N.arith;
+  single = grind (N.arith, N.Each1-weaker, N.WideText.no_half, N.WideText.each_taken);
 }

@@ -12,4 +12,4 @@ returns-clause-most c = omega (N.arith, run_most N.is_unquoted c.args.bytes.now 
 pub returns-clause-taken : goal.returns-clause-taken
 returns-clause-taken c =
     c.take_before.ensures.taken ∙ N.ap (λ l. N.take c.args.made c.args.to.now ++ l) (N.Singles.unquoted_lanes 32 c.args.bytes.now c.args.at _
-    (omega (N.arith, run_most N.is_unquoted c.args.bytes.now c.args.at 32 c.requires.wide)) (c.take_before.ensures.first ∙ c.wide_quotes.ensures))
+    (omega (N.arith, run_most N.is_unquoted c.args.bytes.now c.args.at 32 c.requires.wide)) (grind N.arith))

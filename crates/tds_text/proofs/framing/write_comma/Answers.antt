@@ -3,7 +3,7 @@ use N.{◌≡◌, ℕ, ◌≤◌, [], ◌∷◌, ◌++◌}
 
 comma_text : (column : ℕ) (to text : N.List ℕ) → (column ≡ 0 → ⊥) → 1 ≤ N.length to → N.take 1 (N.slice_set to 0 44) ++ text ≡ N.after_comma column text
 comma_text column [] text h some = grind N.arith
-comma_text column (x ∷ xs) text h some = N.sym (N.ap (λ b. N.cond b text (44 ∷ text)) (N.ne_eqb column 0 h))
+comma_text column (x ∷ xs) text h some = N.sym (grind N.arith)
 
 pub returns-clause-text : N.framing.write_comma.Goals.returns-clause-text
 returns-clause-text c = λ text. comma_text c.args.column _ text c.if-column-eq0.false c.requires

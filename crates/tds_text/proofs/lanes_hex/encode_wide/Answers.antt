@@ -19,5 +19,5 @@ pub loop-at-preserved : N.lanes_hex.encode_wide.Goals.loop-at-preserved
 loop-at-preserved c = record {
   within = omega arith;
   room = search N.rules;
-  digits = two_steps _ _ _ _ _ c.loop-at.invariant.digits c.put_wide_digits.ensures c.put_wide_digits-in-loop-at.ensures;
+  digits = grind (arith, two_steps);
 }

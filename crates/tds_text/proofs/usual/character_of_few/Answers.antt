@@ -6,7 +6,7 @@ pub returns-then-first-lt224-clause-next : goal.returns-then-first-lt224-clause-
 returns-then-first-lt224-clause-next c = record {
   within = omega N.arith;
   whole = rw (two_there c.args.bytes.now c.args.at (omega N.arith))
-      (N.Utf8Laws.two_bytes _ _ (grind N.arith) (grind N.arith) (grind N.arith) (grind N.arith));
+      (grind (N.arith, N.Utf8Laws.two_bytes));
   unquoted = grind (N.arith, two_there);
 }
 
@@ -14,6 +14,6 @@ pub returns-clause-next : goal.returns-clause-next
 returns-clause-next c = record {
   within = omega N.arith;
   whole = rw (three_there c.args.bytes.now c.args.at (omega N.arith))
-      (N.Utf8Laws.three_bytes _ _ _ (grind N.arith) (grind N.arith) (grind N.arith) (grind N.arith) (grind N.arith) (grind N.arith));
+      (grind (N.arith, N.Utf8Laws.three_bytes));
   unquoted = grind (N.arith, three_there);
 }

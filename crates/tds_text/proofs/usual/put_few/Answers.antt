@@ -7,6 +7,5 @@ returns-then-n-eq2-clause-written c = grind (N.arith, N.common_steps, N.UsualTex
 
 pub returns-clause-written : goal.returns-clause-written
 returns-clause-written c =
-    let three : c.args.n ≡ 3 = omega N.arith in
     N.UsualText.three_put _ _ _ _ c.put_byte-one.ensures.written c.put_byte-two.ensures.written c.put_byte.ensures.written
-    (N.ap (λ n. N.take n (N.drop c.args.at c.args.bytes.now)) three ∙ N.UsualText.three_there c.args.bytes.now c.args.at (omega N.arith))
+    (grind (N.arith, N.UsualText.three_there))

@@ -1,7 +1,7 @@
 use Rattle.tds_text.proofs as N
 use N.utf16.next_character.Goals as goal
 use N.{sym, arith}
-use N.Utf16Steps.{alone_at, held_at, high_half, lone_half, lone_other, not_high, one_at, pair_at}
+use N.Utf16Steps.{alone_at, held_at, lone_other, one_at, pair_at}
 
 pub returns-then-bytes-at-lt2-clause-gives : goal.returns-then-bytes-at-lt2-clause-gives
 returns-then-bytes-at-lt2-clause-gives c = let left = N.length-drop c.args.at c.args.bytes.now in grind arith
@@ -13,15 +13,15 @@ returns-then-not-is_surrogate-clause-gives c =
 
 pub returns-then-is_low-clause-gives : goal.returns-then-is_low-clause-gives
 returns-then-is_low-clause-gives c = one_at c.args.bytes.now c.args.at (omega arith) c.unit-first.ensures.value
-    (not_high c.unit-first.result (sym c.if-is_low.ensures)) (lone_half c.unit-first.result (N.inr (sym c.if-is_low.ensures)))
+    (grind arith) (grind arith)
 
 pub returns-then-not-is_low-clause-gives : goal.returns-then-not-is_low-clause-gives
 returns-then-not-is_low-clause-gives c = alone_at c.args.bytes.now c.args.at (omega arith) c.unit-first.ensures.value c.unit-second.ensures.value
-    (high_half c.unit-first.result (sym c.if-not-is_surrogate.ensures) (sym c.if-is_low.ensures)) (sym c.if-not-is_low.ensures)
+    (grind arith) (sym c.if-not-is_low.ensures)
 
 pub returns-clause-gives : goal.returns-clause-gives
 returns-clause-gives c = pair_at c.args.bytes.now c.args.at (omega arith) c.unit-first.ensures.value c.unit-second.ensures.value
-    (high_half c.unit-first.result (sym c.if-not-is_surrogate.ensures) (sym c.if-is_low.ensures)) (sym c.if-not-is_low.ensures)
+    (grind arith) (sym c.if-not-is_low.ensures)
 
 pub returns-then-bytes-at-lt4-clause-gives : goal.returns-then-bytes-at-lt4-clause-gives
 returns-then-bytes-at-lt4-clause-gives = grind (arith, held_at)

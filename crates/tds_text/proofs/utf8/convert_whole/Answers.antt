@@ -2,4 +2,4 @@ use Rattle.tds_text.proofs as N
 use N.utf8.convert_whole.Goals as goal
 
 pub returns-in-Some-clause-fit : goal.returns-in-Some-clause-fit
-returns-in-Some-clause-fit c = N.sym (N.is_utf8-from_IsUtf8 c.args.bytes.now c.in-Some.ensures.whole)
+returns-in-Some-clause-fit c = N.sym (grind (N.arith, N.is_utf8-from_IsUtf8))

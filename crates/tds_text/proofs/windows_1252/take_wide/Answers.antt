@@ -11,4 +11,4 @@ returns-clause-most c = omega (N.arith, run_most N.is_plain c.args.bytes.now c.a
 
 pub returns-clause-taken : goal.returns-clause-taken
 returns-clause-taken c = c.take_before.ensures.taken ∙ N.ap (λ l. N.take c.args.made c.args.to.now ++ l) (N.Singles.wide_lanes c.args.bytes.now c.args.at _
-    (omega (N.arith, run_most N.is_plain c.args.bytes.now c.args.at 32 c.requires.wide)) (c.take_before.ensures.first ∙ c.wide_stops.ensures))
+    (omega (N.arith, run_most N.is_plain c.args.bytes.now c.args.at 32 c.requires.wide)) (grind N.arith))
