@@ -3,9 +3,9 @@ use Rattle.std.specs.Prelude.{◌≡◌, ◌+◌, ◌<◌, ◌≤◌, ℕ, List,
 use Rattle.tds_packet.specs.declared.fault.Fault.{Fault}
 use Rattle.tds_packet.specs.declared.fault.Stop.{Stop}
 use Rattle.tds_packet.specs.declared.payload.Payload.{Payload}
-use Rattle.tds_packet.specs.Payloads.{IsGoing, LeavesPayload}
+use Rattle.tds_packet.specs.Payloads.{IsGoing, IsSound, LeavesPayload}
 use Rattle.tds_csv.specs.declared.sink.Sink.{Sink}
-use Rattle.tds_csv.specs.Sinks.{IsWriting, LeavesSink}
+use Rattle.tds_csv.specs.Sinks.{IsReady, IsWriting, LeavesSink}
 use Rattle.tds_rows.specs.declared.cell.streamed.LongValue.{LongValue}
 use Rattle.tds_rows.specs.Blames.{Blames, failures_of}
 use Rattle.tds_rows.specs.CellSteps.{FieldPut}
@@ -23,6 +23,12 @@ pub record AwaitsData {J R W : Type 0} (begins : List ℕ → Type 0) (withheld 
   pub joining : IsJoining begins withheld value
   pub unit_some : 0 < unit
   pub withheld_none : withheld value.joiner.now ≡ []
+
+-- A call may be made that reads a long value by a joiner that withholds nothing: payload and sink go on or give their stop again.
+pub record IsReadyForValue {R W : Type 0} (payload : Payload R) (sink : Sink W) (withheld : List ℕ) : Type 0 where
+  pub sound : IsSound payload
+  pub ready : IsReady sink
+  pub withheld_none : withheld ≡ []
 
 -- A long value can be read by a joiner that withholds nothing, of data in units of so many bytes.
 pub record AwaitsValue {R W : Type 0} (begins : List ℕ → Type 0) (withheld : List ℕ) (unit : ℕ) (p : Payload R) (s : Sink W) : Type 0 where

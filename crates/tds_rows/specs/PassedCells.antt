@@ -1,10 +1,11 @@
 -- What passing over the value of a RETURNVALUE does.
-use Rattle.std.specs.Prelude.{◌≡◌, ℕ, ◌+◌, ◌%◌, ◌<◌, true, false, is_ok, List, length, Option, Result, MatchResult}
+use Rattle.std.specs.Prelude.{◌≡◌, ℕ, ◌+◌, ◌%◌, ◌<◌, ◌≤◌, true, false, is_ok, List, length, Option, Result, MatchResult}
+use Rattle.tds_meter.specs.Space.{Space}
 use Rattle.tds_packet.specs.declared.fault.Fault.{Fault}
 use Rattle.tds_packet.specs.declared.fault.Stop.{Stop}
 use Rattle.tds_packet.specs.Elements.{Grammar}
 use Rattle.tds_packet.specs.declared.payload.Payload as payloads
-use Rattle.tds_packet.specs.Payloads.{seen}
+use Rattle.tds_packet.specs.Payloads.{IsSound, seen}
 use Rattle.tds_packet.specs.Reading.{Reads, StopsReading}
 use Rattle.tds_packet.specs.PayloadView.{PayloadView, Takes, Ends, IsBetween, began_at}
 use Rattle.tds_columns.specs.ReturnedType.{return_column}
@@ -13,10 +14,16 @@ use Rattle.tds_values.specs.declared.kind.Kind.{Kind}
 use Rattle.tds_values.specs.Scalar.{read_of}
 use Rattle.tds_values.specs.Front.{value_bytes, value_length}
 use Rattle.tds_cells.specs.Cells.{Cell, CellPart, WholeCell, cell}
+use Rattle.tds_rows.specs.CellSteps.{longest_cell}
 
 -- how such a value is read
 abbrev pub return_cell : Grammar CellPart Fault
 return_cell = cell return_column
+
+-- A call may be made that passes over a value: the payload goes on or gives its stop again, and the small area has room for a cell.
+pub record IsReadyToPass {R : Type 0} (payload : payloads.Payload R) (small : Space) : Type 0 where
+  pub sound : IsSound payload
+  pub room : longest_cell ≤ small.room
 
 -- Any bytes may be such data, in units of this many.
 pub record AnyData (c : Conversion) (size : ℕ) : Type 0 where

@@ -30,6 +30,11 @@ pub record IsReadyForRow {R W : Type 0} (payload : Payload R) (sink : Sink W) (s
   pub ready : IsReady sink
   pub room : longest_cell ≤ small.room
 
+-- A call may be made that reads an NBCROW: the bitmap's area has room for the longest, too.
+pub record IsReadyForNbcRow {R W : Type 0} (payload : Payload R) (sink : Sink W) (small bitmap : Space) : Type 0 where
+  pub row : IsReadyForRow payload sink small
+  pub fits : longest_bitmap ≤ bitmap.room
+
 -- Rows can be read: payload and sink go on, and the small area has room for a cell.
 pub record AwaitsRows {R W : Type 0} (payload : Payload R) (sink : Sink W) (small : Space) : Type 0 where
   pub going : IsGoing payload

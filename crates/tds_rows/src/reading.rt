@@ -1,15 +1,12 @@
 // The calls that read rows, one or several after one another (MS-TDS, ROW and NBCROW).
-ghost use Rattle.std.specs.Prelude.{◌≡◌, ◌+◌, ◌≤◌, ◌++◌, ℕ, List, None, false, IfOk};
+ghost use Rattle.std.specs.Prelude.{◌≡◌, ◌≤◌, ◌++◌, ℕ, List, None, false, IfOk};
 ghost use Rattle.tds_columns.specs.View.{columns_of};
-ghost use Rattle.tds_csv.specs.Sinks.{LeavesSink};
-ghost use Rattle.tds_packet.specs.Payloads.{LeavesPayload, buffered};
 ghost use Rattle.tds_packet.specs.Reads.{KeepsRoom};
 ghost use Rattle.tds_cells.specs.Cells.{Cell};
-ghost use Rattle.tds_rows.specs.CellSteps.{LeavesSmall};
 ghost use Rattle.tds_cells.specs.Formats.{most_known};
-ghost use Rattle.tds_rows.specs.RowReading.{AwaitsNbcRows, AwaitsRows, EndsRows, IsReadyForRow, LeavesLent};
+ghost use Rattle.tds_rows.specs.RowReading.{AwaitsNbcRows, AwaitsRows, EndsRows, IsReadyForNbcRow, IsReadyForRow, LeavesLent};
 ghost use Rattle.tds_rows.specs.RowSteps.{IsEarlierStop, RowPut, RowsRead, StopsAgain};
-ghost use Rattle.tds_cells.specs.Rows.{NbcRow, PlainRow, SpellsNbcRow, SpellsRow, longest_bitmap, nbc_row_start, row_start};
+ghost use Rattle.tds_cells.specs.Rows.{NbcRow, PlainRow, SpellsNbcRow, SpellsRow, nbc_row_start, row_start};
 ghost use Rattle.tds_cells.specs.RowFormats.{Learns};
 ghost use Rattle.tds_cells.specs.Rows.{BeginNoRow};
 ghost use Rattle.tds_rows.specs.Successes.{SpellsRows, SucceedsOn};
@@ -50,9 +47,7 @@ pub fn row<R: Read, W: Write>(
     sink: &mut Sink<W>,
 ) -> Result<(), Stop>
     requires { IsReadyForRow payload.old sink.old small.old }
-    ensures payload { LeavesPayload payload.old payload.new result }
-    ensures sink { LeavesSink sink.old sink.new result }
-    ensures small { LeavesSmall small.old small.new }
+    ensures leaves { LeavesLent payload.old payload.new sink.old sink.new small.old small.new result }
     ensures row { payload.old.stopped ≡ None → sink.old.failed ≡ false →
         RowPut R.remaining W.contents charset (row_start charset (columns_of columns.entry.bytes.now))
         payload.old payload.new sink.old sink.new result }
@@ -137,11 +132,8 @@ pub fn read_rows<R: Read, W: Write>(
     sink: &mut Sink<W>,
 ) -> Result<u64, Stop>
     requires { AwaitsRows payload.old sink.old small.old }
-    ensures payload { LeavesPayload payload.old payload.new result }
-    ensures sink { LeavesSink sink.old sink.new result }
-    ensures small { LeavesSmall small.old small.new }
-    ensures few { IfOk result (λ count. payload.old.place + count ≤ payload.new.place + 1) }
-    ensures all { IfOk result (λ _. BeginNoRow PlainRow (buffered payload.new)) }
+    ensures leaves { LeavesLent payload.old payload.new sink.old sink.new small.old small.new result }
+    ensures ends { IfOk result (λ count. EndsRows PlainRow payload.old payload.new count) }
     ensures rows { RowsRead R.remaining W.contents PlainRow charset (columns_of columns.entry.bytes.now)
         payload.old payload.new sink.old sink.new result }
     ensures succeeds { (first : List Cell) (later : List (List Cell)) (bytes more : List ℕ) →
@@ -176,12 +168,9 @@ pub fn nbc_row<R: Read, W: Write>(
     small: &mut Area,
     sink: &mut Sink<W>,
 ) -> Result<(), Stop>
-    requires row { IsReadyForRow payload.old sink.old small.old }
-    requires bitmap { longest_bitmap ≤ bitmap.old.room }
-    ensures payload { LeavesPayload payload.old payload.new result }
-    ensures sink { LeavesSink sink.old sink.new result }
+    requires { IsReadyForNbcRow payload.old sink.old small.old bitmap.old }
+    ensures leaves { LeavesLent payload.old payload.new sink.old sink.new small.old small.new result }
     ensures bitmap { KeepsRoom bitmap.old bitmap.new }
-    ensures small { LeavesSmall small.old small.new }
     ensures row { payload.old.stopped ≡ None → sink.old.failed ≡ false →
         RowPut R.remaining W.contents charset (nbc_row_start (columns_of columns.entry.bytes.now))
         payload.old payload.new sink.old sink.new result }
@@ -273,14 +262,10 @@ pub fn read_nbc_rows<R: Read, W: Write>(
     small: &mut Area,
     sink: &mut Sink<W>,
 ) -> Result<u64, Stop>
-    requires rows { AwaitsRows payload.old sink.old small.old }
-    requires bitmap { longest_bitmap ≤ bitmap.old.room }
-    ensures payload { LeavesPayload payload.old payload.new result }
-    ensures sink { LeavesSink sink.old sink.new result }
+    requires { AwaitsNbcRows payload.old sink.old small.old bitmap.old }
+    ensures leaves { LeavesLent payload.old payload.new sink.old sink.new small.old small.new result }
     ensures bitmap { KeepsRoom bitmap.old bitmap.new }
-    ensures small { LeavesSmall small.old small.new }
-    ensures few { IfOk result (λ count. payload.old.place + count ≤ payload.new.place + 1) }
-    ensures all { IfOk result (λ _. BeginNoRow NbcRow (buffered payload.new)) }
+    ensures ends { IfOk result (λ count. EndsRows NbcRow payload.old payload.new count) }
     ensures rows { RowsRead R.remaining W.contents NbcRow charset (columns_of columns.entry.bytes.now)
         payload.old payload.new sink.old sink.new result }
     ensures succeeds { (first : List Cell) (later : List (List Cell)) (bytes more : List ℕ) →

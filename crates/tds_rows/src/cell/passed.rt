@@ -1,11 +1,11 @@
 // The value of a RETURNVALUE, which is passed over (MS-TDS, RETURNVALUE).
 ghost use Rattle.std.specs.Prelude.{◌<◌, ◌≤◌, IfOk, [], ◌≡◌, ◌++◌, ℕ, List, true, false, length, None, Err, IfSome, IsTrue};
-ghost use Rattle.tds_packet.specs.Payloads.{IsGoing, LeavesPayload, IsSound};
-ghost use Rattle.tds_rows.specs.PassedCells.{DataPassed, PiecePassed, AnyData, CellPassed, IsGoodValue, IsRefusedValue};
+ghost use Rattle.tds_packet.specs.Payloads.{IsGoing, LeavesPayload};
+ghost use Rattle.tds_rows.specs.PassedCells.{DataPassed, PiecePassed, AnyData, CellPassed, IsGoodValue, IsReadyToPass, IsRefusedValue};
 ghost use Rattle.tds_text.specs.Conversion.{Conversion};
 ghost use Rattle.tds_cells.specs.Cells.{ChunkLength, Cell, LongShape, SpellsCell, cell_start, return_charset, shape};
 ghost use Rattle.tds_cells.specs.CellTexts.{IsScalarKind};
-ghost use Rattle.tds_rows.specs.CellSteps.{LeavesGathering, LeavesSmall, longest_cell};
+ghost use Rattle.tds_rows.specs.CellSteps.{LeavesGathering, longest_cell};
 ghost use Rattle.tds_values.specs.Front.{scalar_size};
 ghost use Rattle.tds_rows.specs.Successes.{ReadsOn};
 ghost use Rattle.tds_values.specs.declared.kind.Kind.{Kind};
@@ -137,11 +137,9 @@ pub fn pass_over<R: Read>(
     kind: &Kind,
     small: &mut Area,
 ) -> Result<(), Stop>
-    requires sound { IsSound payload.old }
+    requires ready { IsReadyToPass payload.old small.old }
     requires valid { IsTrue (kinds.is_valid kind.now) }
-    requires room { longest_cell ≤ small.old.room }
-    ensures payload { LeavesPayload payload.old payload.new result }
-    ensures small { LeavesSmall small.old small.new }
+    ensures leaves { LeavesGathering payload.old payload.new small.old small.new result }
     ensures cell { payload.old.stopped ≡ None →
         CellPassed R.remaining (cell_start kind.now (shape return_charset kind.now))
         payload.old payload.new result }

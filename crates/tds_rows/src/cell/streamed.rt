@@ -1,13 +1,11 @@
 // A long value that passes through in pieces, by a joiner (MS-TDS, Data Stream Types).
-ghost use Rattle.std.specs.Prelude.{◌≡◌, ◌<◌, ◌+◌, ◌^◌, ◌++◌, ℕ, List, IfOk, [], false, IfErr, None};
+ghost use Rattle.std.specs.Prelude.{◌≡◌, ◌<◌, ◌+◌, ◌^◌, ◌++◌, ℕ, List, IfOk, [], false, None};
 ghost use Rattle.tds_text.specs.Conversion.{BeginsData, Conversion, Suits, closing, conversion_rest};
 ghost use Rattle.tds_text.specs.Quoting.{after_comma, end_after};
-ghost use Rattle.tds_csv.specs.Sinks.{IsWriting, LeavesSink, PutsPiece, IsReady};
+ghost use Rattle.tds_csv.specs.Sinks.{IsWriting, LeavesSink, PutsPiece};
 ghost use Rattle.tds_rows.specs.Blames.{Blames, failures_of};
 ghost use Rattle.tds_rows.specs.LongCells.{DataTaken, EndPut, PieceTaken, good_of, join_stop, opening};
-ghost use Rattle.tds_rows.specs.LongReading.{AwaitsData, AwaitsValue, BlamesDevices, IsFurther, IsJoining, IsOnSameValue, LeavesBoth, LeavesJoining, LeavesValue, ValuePut};
-ghost use Rattle.tds_packet.specs.Payloads.{IsSound, LeavesPayload};
-ghost use Rattle.tds_meter.specs.Counts.{one_more};
+ghost use Rattle.tds_rows.specs.LongReading.{AwaitsData, AwaitsValue, BlamesDevices, IsFurther, IsJoining, IsOnSameValue, IsReadyForValue, LeavesBoth, LeavesJoining, LeavesValue, ValuePut};
 ghost use Rattle.tds_cells.specs.Cells.{Cell, ChunkLength, LongShape, ShortLength, SpellsCell, long_start};
 ghost use Rattle.tds_rows.specs.CellSteps.{FieldPut};
 ghost use Rattle.tds_rows.specs.RowSteps.{StopsAgain};
@@ -244,19 +242,14 @@ pub fn stream_value<J: Joiner + Drop, R: Read, W: Write>(
     mut joiner: J,
     sink: &mut Sink<W>,
 ) -> Result<(), Stop>
-    requires sound { IsSound payload.old }
-    requires ready { IsReady sink.old }
-    requires withheld { J.withheld joiner ≡ [] }
-    ensures payload { LeavesPayload payload.old payload.new result }
-    ensures sink { LeavesSink sink.old sink.new result }
+    requires { IsReadyForValue payload.old sink.old (J.withheld joiner) }
+    ensures leaves { LeavesBoth payload.old payload.new sink.old sink.new result }
+    ensures blames { payload.old.stopped ≡ None → sink.old.failed ≡ false →
+        Blames (failures_of payload.old sink.old) (failures_of payload.new sink.new) result }
     ensures field { payload.old.stopped ≡ None → sink.old.failed ≡ false → (c : Conversion) →
         Suits J.fit J.begins J.rest J.text J.UNIT J.QUOTED c →
         FieldPut R.remaining W.contents (long_start c reach) column false
         payload.old payload.new sink.old sink.new result }
-    ensures failed_reads { payload.old.stopped ≡ None → sink.old.failed ≡ false → IfErr result (λ stop.
-        stop.fault ≡ Fault.ReadFailed → payload.new.from.now.failures ≡ one_more payload.old.from.now.failures) }
-    ensures failed_writes { payload.old.stopped ≡ None → sink.old.failed ≡ false → IfErr result (λ stop.
-        stop.fault ≡ Fault.WriteFailed → sink.new.to.now.failures ≡ one_more sink.old.to.now.failures) }
     ensures succeeds { payload.old.stopped ≡ None → sink.old.failed ≡ false → (c : Conversion) →
         Suits J.fit J.begins J.rest J.text J.UNIT J.QUOTED c → (kind : Kind) (value : Cell) (bytes more : List ℕ) →
         SpellsCell kind (LongShape c reach) value bytes →
