@@ -1,13 +1,17 @@
 -- The next cells of a row, those of a run or one, NULL or not, and rows one after another.
 use Rattle.tds_rows.proofs.Words as N
-use Rattle.tds_rows.proofs.Words.{arith, sym, ◌≡◌, ◌+◌, ℕ, Bool, true, false, List, ◌∷◌, drop, refl, Err, Ok, Option, ◌==◌, Stop, seen, Column, held, Rows}
+use Rattle.tds_rows.proofs.Words.{arith, sym, ◌≡◌, ◌+◌, ◌*◌, ℕ, Bool, true, false, List, ◌∷◌, drop, refl, Err, Ok, Option, ◌==◌, Stop, seen, Column, held, Rows}
 use Rattle.tds_rows.proofs.Words.{Cursor, IsInRow, StaysInRow, RowStops, RowPart, marked, ◌∙◌, ◌-◌, ◌^◌, ◌≤◌, ◌<◌, [], ◌++◌, length, ap, before, PayloadView}
+use Rattle.tds_rows.proofs.Words.{⊤, ◌⊎◌, inl, inr}
 use Rattle.tds_rows.proofs.Words.{Takes}
 use Rattle.tds_rows.proofs.Words.{SinkView, Puts, Charset, Cell, rows, Kind, Knows}
-use Rattle.tds_rows.proofs.NullSteps.{NearsCells, all_put, bitmap_nears, cell_nears, cell_stops, null_breaks, null_nears, cell_path, marked_stops, row_ends}
+use Rattle.tds_packet.specs.declared.payload.Payload.{Payload}
+use Rattle.tds_rows.proofs.NullSteps.{NearsCells, all_put, bitmap_cut, bitmap_nears, cell_nears, cell_stops, null_breaks, null_nears, cell_path, marked_stops}
+use Rattle.tds_rows.proofs.NullSteps.{row_ends}
 use Rattle.tds_cells.proofs.RowTexts.{ends, ends_marked, coming, nulls_ahead, none_ahead}
 use Rattle.tds_rows.proofs.RowSteps.{PutsAt, StopsAt, cell_some}
 use Rattle.tds_rows.proofs.Paths.{At, here, Path, path_both, path_map, path_none, path_of, over}
+use Rattle.std.proofs.lemmas.Bool.{true≢false}
 use Rattle.tds_cells.proofs.GrammarTexts.{writes_none}
 use Rattle.tds_cells.proofs.RowFormatSteps.{last_one, next_column}
 use Rattle.tds_cells.proofs.RunSteps.{rows_after, row_among, row_token}
@@ -150,56 +154,7 @@ stays_on x y = grind arith
 pub stays_after : {R W U : Type 0} {a b : Rows R W} {u : U} → IsInRow a → N.LeavesRows a b (Ok u) → StaysInRow a b
 stays_after x y = grind arith
 
--- where a call that stops after some steps leaves it
-pub leaves_after : {R W U V : Type 0} {a b c : Rows R W} {stop : Stop} → StaysInRow a b → N.LeavesRows {U = U} b c (Err stop)
-    → N.LeavesRows {U = V} a c (Err stop)
-leaves_after x y = grind arith
-
 -- ---- the next cell
-
--- The cells of an NBCROW before a place were read and their text put, but for that of the NULLs by their bit from there on.
-abbrev pub NearsHere : {R W : Type 0} → (R → Option (List ℕ)) → (W → Option (List ℕ)) → List Column → (ℕ → Bool) → At → Rows R W → Cursor → Type 0
-NearsHere remaining contents columns nulls p rows at = N.IsCursor rows.row_format.now columns at
-    × NearsCells rows.row_format.now.charset (N.nbc_row_start columns) (marked (drop at.column columns) nulls at.column) p (here remaining contents rows)
-    at.column
-
--- So it is whatever columns the row format knows.
-abbrev pub NearsAll : {R W : Type 0} → (R → Option (List ℕ)) → (W → Option (List ℕ)) → (ℕ → Bool) → At → Rows R W → Cursor → Type 0
-NearsAll remaining contents nulls p rows at =
-    (columns : List Column) → Knows rows.row_format.now columns → NearsHere remaining contents columns nulls p rows at
-
-module _ {R W : Type 0} {remaining : R → Option (List ℕ)} {contents : W → Option (List ℕ)} {old new : Rows R W} {p : At}
-    {from to : Cursor} {bitmap : N.Bor (List ℕ)} (in_row : IsInRow old) (nears : NearsAll remaining contents (N.bit bitmap.now) p old from) where
-  pub run_near : {count : ℕ} → N.RunRead remaining contents (N.Marked bitmap) from to old new (Ok count)
-      → NearsAll remaining contents (N.bit bitmap.now) p new to
-  run_near x columns known =
-      let kept = stays_after in_row x.leaves in
-      let knows = rw kept.same.3 at known in
-      let near = nears columns knows in
-      let put = x.cells.1 columns knows near.0 in
-      let sink = kept.in_row.sink in
-      let more = marked_nears _ _ columns (N.bit bitmap.now) p from.column put.runs.count (here remaining contents old) (here remaining contents new) _ _
-      put.runs.writes (record {
-        takes = put.takes;
-        between = N.between_of remaining new.payload.now kept.in_row.payload.going;
-        puts = put.puts;
-        few = sink.ready.1 sink.writing;
-        delivered = in_row.sink.ready.2;
-        place_is = put.place_is;
-      }) near.1 in
-      rw kept.same.3 (grind arith)
-
-  -- a write of their text failed
-  pub run_stops : {stop : Stop} → N.RunRead remaining contents (N.Marked bitmap) from to old new (Err stop) → (columns : List Column)
-      → Knows old.row_format.now columns
-      → RowStops old.row_format.now.charset (N.nbc_row_start columns) p.seen (seen remaining new.payload.now) p.place p.held (held contents new.sink.now)
-      new.sink.now.failed stop
-  run_stops {stop = stop} x columns knows =
-      let near = nears columns knows in
-      let y = x.cells columns knows near.0 in
-      let sink = in_row.sink in
-      rw y.failed_is (marked_breaks _ _ columns (N.bit bitmap.now) p _ y.runs.count (here remaining contents old) _ _ stop y.bytes [] y.text y.runs.writes
-      (rw N.append-nil y.takes) y.between (sink.ready.1 sink.writing) sink.ready.2 y.breaks near.1)
 
 -- the next cell was read, or it stopped
 pub cell_read : {R W U : Type 0} {remaining : R → Option (List ℕ)} {contents : W → Option (List ℕ)} {old new : Rows R W} {at after : Cursor}
@@ -219,40 +174,6 @@ cell_read {at = at} {kind = kind} {columns = columns} nulls x knows ahead taken 
       last = refl;
     } in
     rw (taken.kind, ends_marked _ nulls (at.column + 1)) at (x.cell _ next)
-
-module _ {R W : Type 0} (remaining : R → Option (List ℕ)) (contents : W → Option (List ℕ)) (old new : Rows R W) {columns : List Column} (nulls : ℕ
-    → Bool) {at after : Cursor} {kind : Kind} (knows : Knows old.row_format.now columns)
-    (taken : N.TakesColumn old.row_format.now columns at after kind) where
-  abbrev left : List (Column × Bool)
-  left = marked (drop after.column columns) nulls (at.column + 1)
-
-  last_is : (at.column + 1 == old.row_format.now.count) ≡ ends left
-  last_is = grind (arith, last_one)
-
-  module _ (p : At) (in_row : IsInRow old) (before : NearsHere remaining contents columns nulls p old at) where
-    left_here : (null : Bool) → nulls at.column ≡ null
-        → NearsCells old.row_format.now.charset (N.nbc_row_start columns) ((taken.column, null) ∷ left) p (here remaining contents old) at.column
-    left_here _ is = grind arith
-
-    there : {U : Type 0} {u : U} → N.LeavesRows old new (Ok u)
-        → NearsCells old.row_format.now.charset (N.nbc_row_start columns) left p (here remaining contents new) (at.column + 1)
-        → NearsHere remaining contents columns nulls p new after
-    there leaves x = grind arith
-
-    pub next_nears : {U : Type 0} (u : U) (null : Bool) → nulls at.column ≡ null → N.LeavesRows old new (Ok u)
-        → N.NextRead remaining contents at kind null old new (Ok u) → NearsHere remaining contents columns nulls p new after
-    next_nears u true is leaves y = there leaves (rw y.0 (null_nears (left_here true is) (rw last_is at y.1.gives)))
-    next_nears u false is leaves y =
-        there leaves (cell_nears (N.between_of remaining new.payload.now leaves.payload.going) (omega arith)
-        (all_put refl in_row.sink.ready.2 (left_here false is)) (cell_read nulls y knows before.0 taken))
-
-    pub next_stops : (U : Type 0) {stop : Stop} (null : Bool) → nulls at.column ≡ null
-        → N.NextRead {U = U} remaining contents at kind null old new (Err stop)
-        → RowStops old.row_format.now.charset (N.nbc_row_start columns) p.seen (seen remaining new.payload.now) p.place p.held (held contents new.sink.now)
-        new.sink.now.failed stop
-    next_stops U true is y = rw (y.0, y.1.failed) (null_breaks [] (N.Takes-none _ 0)
-        (grind arith) (left_here _ is) (rw last_is at (y.1.gives in_row.sink.writing)))
-    next_stops U false is y = cell_stops (all_put refl in_row.sink.ready.2 (left_here _ is)) (cell_read nulls y knows before.0 taken)
 
 -- ---- rows, one after another
 
@@ -275,6 +196,9 @@ module _ {token : N.RowToken} {charset : Charset} {all : List Column} where
     rows_on : {part more : RowPart} {r : At} → RowsAt token charset all p q count part → Path (N.row charset) N.row_so_far part q r more
         → RowsAt token charset all p r count more
     rows_on x y = record { before = x.before; counted = x.counted; path = path_both x.path (path_map (λ a m. row_among _ _ _ _) y) }
+
+    rows_stay : {part : RowPart} {r : At} → RowsAt token charset all p q count part → Passes q r [] [] → RowsAt token charset all p r count part
+    rows_stay x y = rows_on x (record { bytes = []; made = []; writes = writes_none; takes = y.takes; puts = y.puts; place_is = y.place_is })
 
     pub rows_stop : {part : RowPart} {d : PayloadView} {j : SinkView} {failed : Bool} {stop : Stop} → RowsAt token charset all p q count part
         → RowStops charset part q.seen d q.place q.held j failed stop → N.RowsStop token charset all p.seen d p.place p.held j failed stop
@@ -312,6 +236,28 @@ module _ {token : N.RowToken} {charset : Charset} {all : List Column} where
     path = path_both (path_of x.streams x.place_is)
         (record { bytes = N.token_byte _ ∷ []; made = []; writes = row_token _ _ _ _ x.last some; takes = takes; puts = puts; place_is = place_is });
   }
+
+-- ROWs after ROWs
+module _ {charset : Charset} {all : List Column} {p q : At} {count : ℕ} (x : RowsAt N.PlainRow charset all p q count (N.row_start charset all)) where
+  rows_further : {earlier : List (List Cell)} {part : RowPart} {r : At} → Path (rows N.PlainRow charset all) N.rows_so_far
+      (N.rows_start N.PlainRow charset all) q r (record { before = earlier; at = part }) → RowsAt N.PlainRow charset all p r (count + length earlier) part
+  rows_further {earlier = earlier} y = record {
+    before = x.before ++ earlier;
+    counted = omega (arith, x.counted, N.length-append x.before earlier);
+    path = path_both x.path (rw N.append-nil at (path_map (λ a m. rows_after charset all x.before) y));
+  }
+
+  rows_more : {n : ℕ} {r : At} → over (N.ReadsRows N.PlainRow charset all n) q r → over (N.ReadsRows N.PlainRow charset all (count + n)) p r
+  rows_more {n = n} y =
+      let z = rows_whole (rows_further (path_of y.streams y.place_is)) in
+      let all_rows : count + length y.earlier + 1 ≡ count + n = omega (arith, y.counted) in
+      rw all_rows at z
+
+  rows_more_stop : {d : PayloadView} {j : SinkView} {failed : Bool} {stop : Stop} → N.RowsStop N.PlainRow charset all q.seen d q.place q.held j failed stop
+      → N.RowsStop N.PlainRow charset all p.seen d p.place p.held j failed stop
+  rows_more_stop y =
+      let there : At = record { seen = y.middle; place = q.place + length y.streams.bytes; held = y.between } in
+      rows_stop {q = there} (rows_further (path_of {q = there} y.streams refl)) y.stops
 
 -- ---- ROWs, run after run and cell after cell
 
@@ -354,61 +300,250 @@ module _ {charset : Charset} {all : List Column} {p q : At} {column count : ℕ}
         → StopsAt charset c.kind column (ends ks) q d j failed stop → N.RowsStop N.PlainRow charset all p.seen d p.place p.held j failed stop
     rowing_stop x y = rows_stop x.rows (marked_stops _ _ _ c (rw (N.sym x.counted) at y))
 
--- The reading of ROWs stands at this place of the last one, whatever columns the row format knows.
-abbrev pub RowsHere : {R W : Type 0} → (R → Option (List ℕ)) → (W → Option (List ℕ)) → At → Rows R W → Cursor → ℕ → Type 0
-RowsHere remaining contents p rows at count = (columns : List Column) → Knows rows.row_format.now columns
-    → N.IsCursor rows.row_format.now columns at × Rowing rows.row_format.now.charset columns (coming (drop at.column columns) at.column) p
-    (here remaining contents rows) at.column count
+-- ---- the cells of either kind of row, run after run and one by one
 
-module _ {R W : Type 0} {remaining : R → Option (List ℕ)} {contents : W → Option (List ℕ)} {p : At} {old new : Rows R W} {from : Cursor} {count : ℕ}
-    (reads : RowsHere remaining contents p old from count) where
-  pub rows_ran : {to : Cursor} {more : ℕ} → N.RunRead remaining contents N.Unmarked from to old new (Ok more)
-      → RowsHere remaining contents p new to (count + more)
-  rows_ran x columns known =
-      let same = x.leaves.same.3 in
-      let y = reads columns (rw same at known) in
-      let ran = x.cells columns (rw same at known) y.0 in
-      rw same (ran.0, rowing_run y.1 (grind arith))
+-- The first cells of a row were read and their text put: of ROWs, so many after the first; of an NBCROW but for the NULLs by their bit from there on.
+abbrev standing : N.Nulls → Charset → List Column → At → At → ℕ → ℕ → Type 0
+standing N.Unmarked charset columns p q column count = Rowing charset columns (coming (drop column columns) column) p q column count
+standing (N.Marked bitmap) charset columns p q column count = (count ≡ 0)
+    × NearsCells charset (N.nbc_row_start columns) (marked (drop column columns) (N.bit bitmap.now) column) p q column
 
-  pub rows_broke : {stop : Stop} {to : Cursor} → IsInRow old → N.RunRead remaining contents N.Unmarked from to old new (Err stop) → (columns : List Column)
-      → Knows old.row_format.now columns
-      → N.RowsStop N.PlainRow old.row_format.now.charset columns p.seen (seen remaining new.payload.now) p.place p.held (held contents new.sink.now)
-      new.sink.now.failed stop
-  rows_broke in_row x columns knows =
-      let sink = in_row.sink in
-      let y = reads columns knows in
-      rows_stop y.1.rows (rw y.1.counted at (run_breaks {place = old.payload.now.place} y.1.cells (x.cells columns knows y.0) y.1.counted
-      (sink.ready.1 sink.writing) sink.ready.2))
+-- the token of the rows with such bits
+abbrev pub token_of : N.Nulls → N.RowToken
+token_of N.Unmarked = N.PlainRow
+token_of (N.Marked bitmap) = N.NbcRow
 
-  module _ {after : Cursor} {kind : Kind} (taken : (columns : List Column) → Knows old.row_format.now columns → N.IsCursor old.row_format.now columns from
-      → N.TakesColumn old.row_format.now columns from after kind) {U : Type 0} where
-    pub rows_cell : {u : U} → N.CellRead remaining contents from kind old new (Ok u) → RowsHere remaining contents p new after count
-    rows_cell x columns known =
-        let same = x.leaves.same.3 in
-        let knows = rw same at known in
-        let y = reads columns knows in
-        let t = taken columns knows y.0 in
-        rw same (
-          t.ahead,
-          rw (N.sym t.further) at (rowing_cell (none_ahead (drop after.column columns) _) (rw t.next at y.1)
-              (cell_read (λ k. false) x knows y.0 t)),
+pub token_is : (token : N.RowToken) (nulls : N.Nulls) (bytes : List ℕ) → N.MarkedBy token bytes nulls → token ≡ token_of nulls
+token_is N.PlainRow N.Unmarked _ _ = refl
+token_is N.NbcRow (N.Marked bitmap) _ _ = refl
+token_is N.PlainRow (N.Marked bitmap) _ none = absurd none
+token_is N.NbcRow N.Unmarked _ none = absurd none
+
+-- So it is at this place, whatever columns the row format knows.
+pub record Stands {R W : Type 0} (remaining : R → Option (List ℕ)) (contents : W → Option (List ℕ)) (nulls : N.Nulls) (first rows : Rows R W)
+    (at : Cursor) (count : ℕ) : Type 0 where
+  pub kept : StaysInRow first rows
+  pub reads : (columns : List Column) → Knows first.row_format.now columns → N.IsCursor first.row_format.now columns at
+      × standing nulls first.row_format.now.charset columns (here remaining contents first) (here remaining contents rows) at.column count
+
+-- The next cell was put, NULL or as it was read, or the call stopped.
+pub record NextPut {R W : Type 0} (remaining : R → Option (List ℕ)) (contents : W → Option (List ℕ)) (nulls : N.Nulls) (old new : Rows R W)
+    (at after : Cursor) (result : N.Result ⊤ Stop) : Type 0 where
+  pub kind : Kind
+  pub takes : (columns : List Column) → Knows old.row_format.now columns → N.IsCursor old.row_format.now columns at
+      → N.TakesColumn old.row_format.now columns at after kind
+  pub read : N.NextRead remaining contents at kind (N.nulls_of nulls at.column) old new result
+
+abbrev pub SomeHere : {R W : Type 0} → (R → Option (List ℕ)) → (W → Option (List ℕ)) → N.RowToken → List Column → Rows R W → Rows R W → N.Result ℕ Stop
+    → Type 0
+SomeHere remaining contents token columns old new result = N.SomeRead remaining contents token old.row_format.now.charset columns old.payload.now
+    new.payload.now old.sink.now new.sink.now result
+
+passes_on : {R W : Type 0} (remaining : R → Option (List ℕ)) (contents : W → Option (List ℕ)) {old new : Rows R W} {bytes text : List ℕ} → IsInRow old
+    → IsInRow new → Takes (seen remaining old.payload.now) (seen remaining new.payload.now) bytes 0
+    → Puts (held contents old.sink.now) (held contents new.sink.now) text → new.payload.now.place ≡ old.payload.now.place + length bytes
+    → Passes (here remaining contents old) (here remaining contents new) bytes text
+passes_on remaining contents {new = new} before after takes puts place_is = record {
+  takes = takes;
+  between = N.between_of remaining new.payload.now after.payload.going;
+  puts = puts;
+  few = after.sink.ready.1 after.sink.writing;
+  delivered = before.sink.ready.2;
+  place_is = place_is;
+}
+
+module _ {R W : Type 0} (remaining : R → Option (List ℕ)) (contents : W → Option (List ℕ)) (old new : Rows R W) {columns : List Column} (nulls : ℕ
+    → Bool) {at after : Cursor} {kind : Kind} (knows : Knows old.row_format.now columns) (ahead : N.IsCursor old.row_format.now columns at)
+    (taken : N.TakesColumn old.row_format.now columns at after kind) where
+  abbrev left : List (Column × Bool)
+  left = marked (drop after.column columns) nulls (at.column + 1)
+
+  last_is : (at.column + 1 == old.row_format.now.count) ≡ ends left
+  last_is = grind (arith, last_one)
+
+  -- the next cell doesn't go back
+  next_place : {u : ⊤} (null : Bool) → N.NextRead remaining contents at kind null old new (Ok u) → old.payload.now.place ≤ new.payload.now.place
+  next_place true x = omega (arith, ap (λ p. p.place) x.0)
+  next_place false x =
+      let some = cell_some {p = here remaining contents old} {q = here remaining contents new} _ _ (cell_read nulls x knows ahead taken) in
+      omega (arith, some)
+
+  module _ (p : At) (in_row : IsInRow old) (near : NearsCells old.row_format.now.charset (N.nbc_row_start columns)
+      (marked (drop at.column columns) nulls at.column) p (here remaining contents old) at.column) where
+    left_here : (null : Bool) → nulls at.column ≡ null
+        → NearsCells old.row_format.now.charset (N.nbc_row_start columns) ((taken.column, null) ∷ left) p (here remaining contents old) at.column
+    left_here _ is = grind arith
+
+    next_nears : {u : ⊤} (null : Bool) → nulls at.column ≡ null → N.LeavesRows old new (Ok u) → N.NextRead remaining contents at kind null old new (Ok u)
+        → NearsCells old.row_format.now.charset (N.nbc_row_start columns) left p (here remaining contents new) (at.column + 1)
+    next_nears true is leaves y = rw y.0 (null_nears (left_here true is) (rw last_is at y.1.gives))
+    next_nears false is leaves y = cell_nears (N.between_of remaining new.payload.now leaves.payload.going) (omega arith)
+        (all_put refl in_row.sink.ready.2 (left_here false is)) (cell_read nulls y knows ahead taken)
+
+    next_stops : {stop : Stop} (null : Bool) → nulls at.column ≡ null → N.NextRead {U = ⊤} remaining contents at kind null old new (Err stop)
+        → RowStops old.row_format.now.charset (N.nbc_row_start columns) p.seen (seen remaining new.payload.now) p.place p.held (held contents new.sink.now)
+        new.sink.now.failed stop
+    next_stops true is y = rw (y.0, y.1.failed) (null_breaks [] (N.Takes-none _ 0)
+        (grind arith) (left_here _ is) (rw last_is at (y.1.gives in_row.sink.writing)))
+    next_stops false is y = cell_stops (all_put refl in_row.sink.ready.2 (left_here _ is)) (cell_read nulls y knows ahead taken)
+
+module _ {R W : Type 0} {remaining : R → Option (List ℕ)} {contents : W → Option (List ℕ)} {first old : Rows R W} {from : Cursor} {count : ℕ} where
+  look : {columns : List Column} (nulls : N.Nulls) → Stands remaining contents nulls first old from count → Knows first.row_format.now columns
+      → Knows old.row_format.now columns × N.IsCursor old.row_format.now columns from
+      × standing nulls old.row_format.now.charset columns (here remaining contents first) (here remaining contents old) from.column count
+  look nulls x knows = let y = x.reads _ knows in rw x.kept.same.3 (knows, y.0, y.1)
+
+  -- at the row's end
+  pub stands_end : {columns : List Column} (nulls : N.Nulls) → Stands remaining contents nulls first old from count
+      → ((columns : List Column) → Knows old.row_format.now columns → N.IsCursor old.row_format.now columns from → drop from.column columns ≡ [])
+      → Knows first.row_format.now columns → SomeHere remaining contents (token_of nulls) columns first old (Ok (count + 1))
+  stands_end N.Unmarked x none knows =
+      let y = look N.Unmarked x knows in
+      rw (← x.kept.same.3) (rows_whole (rw (none _ y.0 y.1) at y.2).rows)
+  stands_end (N.Marked bitmap) x none knows =
+      let y = look (N.Marked bitmap) x knows in
+      (omega (arith, y.2.0), rw (← x.kept.same.3) (row_ends (all_put refl x.kept.in_row.sink.ready.2 (rw (none _ y.0 y.1) at y.2.1))))
+
+  module _ {new : Rows R W} {to : Cursor} where
+    -- after the cells of a run
+    pub stands_run : {more : ℕ} (nulls : N.Nulls) → Stands remaining contents nulls first old from count
+        → N.RunRead remaining contents nulls from to old new (Ok more) → Stands remaining contents nulls first new to (count + more)
+    stands_run N.Unmarked x run = record {
+      kept = stays_on x.kept (stays_after x.kept.in_row run.leaves);
+      reads = λ columns knows.
+          let y = look N.Unmarked x knows in
+          let ran = run.cells _ y.0 y.1 in
+          rw (← x.kept.same.3) (ran.0, rowing_run y.2 (grind arith));
+    }
+    stands_run (N.Marked bitmap) x run = record {
+      kept = stays_on x.kept (stays_after x.kept.in_row run.leaves);
+      reads = λ columns knows.
+          let y = look (N.Marked bitmap) x knows in
+          let put = run.cells.1 _ y.0 y.1 in
+          let near = marked_nears _ _ columns (N.bit bitmap.now) _ from.column put.runs.count (here remaining contents old) (here remaining contents new)
+          _ _ put.runs.writes
+          (passes_on remaining contents x.kept.in_row (stays_after x.kept.in_row run.leaves).in_row put.takes put.puts put.place_is) y.2.1 in
+          rw (← x.kept.same.3) (put.runs.ahead, (omega (arith, y.2.0, run.cells.0), rw put.runs.further near));
+    }
+
+    -- a write of their text failed
+    pub run_fails : {stop : Stop} {columns : List Column} (nulls : N.Nulls) → Stands remaining contents nulls first old from count
+        → N.RunRead remaining contents nulls from to old new (Err stop) → Knows first.row_format.now columns
+        → SomeHere remaining contents (token_of nulls) columns first new (Err stop)
+    run_fails N.Unmarked x run knows =
+        let y = look N.Unmarked x knows in
+        let sink = x.kept.in_row.sink in
+        rw (← x.kept.same.3) (rows_stop y.2.rows (rw y.2.counted at (run_breaks {place = old.payload.now.place} y.2.cells (run.cells _ y.0 y.1) y.2.counted
+        (sink.ready.1 sink.writing) sink.ready.2)))
+    run_fails {stop = stop} {columns = columns} (N.Marked bitmap) x run knows =
+        let y = look (N.Marked bitmap) x knows in
+        let put = run.cells _ y.0 y.1 in
+        let sink = x.kept.in_row.sink in (
+          tt,
+          rw (← x.kept.same.3, put.failed_is) (marked_breaks _ _ columns (N.bit bitmap.now) _ _ put.runs.count (here remaining contents old) _ _ stop
+              put.bytes [] put.text put.runs.writes (rw N.append-nil put.takes) put.between (sink.ready.1 sink.writing) sink.ready.2 put.breaks y.2.1),
         )
 
-    -- which has some bytes
-    pub cell_further : {u : U} → N.CellRead remaining contents from kind old new (Ok u) → (columns : List Column) → Knows old.row_format.now columns
-        → old.payload.now.place < new.payload.now.place
-    cell_further x columns knows =
-        let y = reads columns knows in
-        cell_some _ _ (cell_read (λ k. false) x knows y.0 (taken columns knows y.0))
+    -- after the next cell
+    pub stands_next : {u : ⊤} (nulls : N.Nulls) → Stands remaining contents nulls first old from count → N.LeavesRows old new (Ok u)
+        → NextPut remaining contents nulls old new from to (Ok u) → Stands remaining contents nulls first new to count
+    stands_next N.Unmarked x leaves next = record {
+      kept = stays_on x.kept (stays_after x.kept.in_row leaves);
+      reads = λ columns knows.
+          let y = look N.Unmarked x knows in
+          let t = next.takes _ y.0 y.1 in
+          rw (← x.kept.same.3) (
+            t.ahead,
+            rw (N.sym t.further) at (rowing_cell (none_ahead (drop to.column columns) _) (rw t.next at y.2)
+                (cell_read (λ k. false) next.read y.0 y.1 t)),
+          );
+    }
+    stands_next (N.Marked bitmap) x leaves next = record {
+      kept = stays_on x.kept (stays_after x.kept.in_row leaves);
+      reads = λ columns knows.
+          let y = look (N.Marked bitmap) x knows in
+          let t = next.takes _ y.0 y.1 in
+          let near = next_nears remaining contents old new (N.bit bitmap.now) y.0 y.1 t _ x.kept.in_row y.2.1 _ refl leaves next.read in
+          rw (← x.kept.same.3) (t.ahead, (y.2.0, rw (N.sym t.further) at near));
+    }
 
-    pub rows_stopped : {stop : Stop} → N.CellRead {U = U} remaining contents from kind old new (Err stop) → (columns : List Column)
-        → Knows old.row_format.now columns
-        → N.RowsStop N.PlainRow old.row_format.now.charset columns p.seen (seen remaining new.payload.now) p.place p.held (held contents new.sink.now)
-        new.sink.now.failed stop
-    rows_stopped x columns knows =
-        let y = reads columns knows in
-        let t = taken columns knows y.0 in
-        rowing_stop (rw t.next at y.1) (cell_read (λ k. false) x knows y.0 t)
+    -- it stopped
+    pub next_fails : {stop : Stop} {columns : List Column} (nulls : N.Nulls) → Stands remaining contents nulls first old from count
+        → NextPut remaining contents nulls old new from to (Err stop) → Knows first.row_format.now columns
+        → SomeHere remaining contents (token_of nulls) columns first new (Err stop)
+    next_fails N.Unmarked x next knows =
+        let y = look N.Unmarked x knows in
+        let t = next.takes _ y.0 y.1 in
+        rw (← x.kept.same.3) (rowing_stop (rw t.next at y.2) (cell_read (λ k. false) next.read y.0 y.1 t))
+    next_fails (N.Marked bitmap) x next knows =
+        let y = look (N.Marked bitmap) x knows in
+        let t = next.takes _ y.0 y.1 in
+        (tt, rw (← x.kept.same.3) (next_stops remaining contents old new (N.bit bitmap.now) y.0 y.1 t _ x.kept.in_row y.2.1 _ refl next.read))
+
+-- before the first cell: nothing was read of a ROW, and of an NBCROW the bitmap, which has a bit for each column
+pub stands_first : {R W : Type 0} {remaining : R → Option (List ℕ)} (contents : W → Option (List ℕ)) {first old : Rows R W} {from : Cursor}
+    (nulls : N.Nulls) (bytes : List ℕ) → N.MarkedBy (token_of nulls) bytes nulls → N.KnowsSome first.row_format.now → N.IsWriting first.sink.now
+    → StaysInRow first old → old.sink.now ≡ first.sink.now → from.column ≡ 0
+    → ((columns : List Column) → Knows first.row_format.now columns → N.IsCursor first.row_format.now columns from)
+    → N.BitmapRead {U = ⊤} remaining (token_of nulls) first.payload.now old.payload.now bytes first.row_format.now.count (Ok tt)
+    → N.Covers nulls first.row_format.now.count × (first.payload.now.place ≤ old.payload.now.place) × Stands remaining contents nulls first old from 0
+stands_first _ N.Unmarked _ _ _ writing kept sink start ahead read = (
+  tt,
+  omega (arith, ap (λ p. p.place) read.0),
+  record {
+    kept = kept;
+    reads = rw (read.0, sink) (λ columns knows.
+        (ahead columns knows, rw start (record { cells = []; counted = refl; rows = rows_first writing.ready.2 })));
+  },
+)
+stands_first _ (N.Marked bitmap) _ is known writing kept sink start ahead read = (
+  omega (arith, ap length is, read.whole),
+  omega (arith, read.place_is),
+  record {
+    kept = kept;
+    reads = rw sink (λ columns knows.
+        let whole = read.whole ∙ ap N.bitmap_length knows.counted in
+        let near = bitmap_nears columns _ (omega (arith, knows.counted, known.2)) whole read.takes read.between (writing.ready.1 writing.writing)
+        writing.ready.2 read.place_is in
+        (ahead columns knows, (refl, rw (start, is) near)));
+  },
+)
+
+-- the payload stopped in it
+pub bitmap_fails : {R W : Type 0} {row_format : N.RowFormat} {columns : List Column} (remaining : R → Option (List ℕ)) (contents : W → Option (List ℕ))
+    (a b : Payload R) {sink : N.Sink W} (token : N.RowToken) (bytes : List ℕ) (stop : Stop) → N.IsWriting sink → Knows row_format columns
+    → 0 < row_format.count → N.BitmapRead {U = ⊤} remaining token a b bytes row_format.count (Err stop)
+    → N.SomeRead remaining contents token row_format.charset columns a b sink sink (Err stop)
+bitmap_fails _ _ _ _ N.PlainRow _ _ _ _ _ read = grind (arith, read.1)
+bitmap_fails _ _ _ _ N.NbcRow _ _ writing knows some x =
+    (tt, rw writing.writing (bitmap_cut _ x.part x.own (omega (arith, x.fewer, knows.counted)) x.ends x.stop_is writing.ready.2))
+
+-- a run and the next cell go on: by a byte, or by a column
+pub next_further : {R W : Type 0} {remaining : R → Option (List ℕ)} {contents : W → Option (List ℕ)} {first old middle new : Rows R W}
+    {from to after : Cursor} {count more : ℕ} {u : ⊤} (nulls : N.Nulls) → Stands remaining contents nulls first old from count
+    → N.RunRead remaining contents nulls from to old middle (Ok more) → N.KnowsSome first.row_format.now
+    → NextPut remaining contents nulls middle new to after (Ok u)
+    → (middle.payload.now.place ≤ new.payload.now.place)
+    × ((middle.payload.now.place < new.payload.now.place) ⊎ (from.column < after.column))
+next_further N.Unmarked x run known next =
+    let y = look N.Unmarked (stands_run N.Unmarked x run) known.1 in
+    let some = cell_some _ _ (cell_read (λ k. false) next.read y.0 y.1 (next.takes _ y.0 y.1)) in
+    (omega (arith, some), inl some)
+next_further {remaining = remaining} {contents = contents} {middle = middle} {new = new} (N.Marked bitmap) x run known next =
+    let from = look (N.Marked bitmap) x known.1 in
+    let y = look (N.Marked bitmap) (stands_run (N.Marked bitmap) x run) known.1 in
+    let t = next.takes _ y.0 y.1 in (
+      next_place remaining contents middle new (N.bit bitmap.now) y.0 y.1 t _ next.read,
+      inr (omega (arith, t.further, (run.cells.1 _ from.0 from.1).runs.further)),
+    )
+
+-- so less is left of the packets that may come, or of the row
+pub row_shrinks : (most most' p q r count count' from after : ℕ) → count' ≡ count → most' ≡ most → r ≤ most' → after ≤ count' → count ≤ 65535 → p ≤ q
+    → (q ≤ r) × ((q < r) ⊎ (from < after)) → (most' - r) * 65536 + (count' - after) < (most - p) * 65536 + (count - from)
+row_shrinks most most' p q r count count' from after same even within most_columns few step (on, inl x) =
+    omega (arith, same, even, within, most_columns, few, step, on, x)
+row_shrinks most most' p q r count count' from after same even within most_columns few step (on, inr x) =
+    omega (arith, same, even, within, most_columns, few, step, on, x)
 
 -- ---- NBCROWs that are whole in the packet
 
@@ -432,10 +567,7 @@ module _ {charset : Charset} {columns : List Column} where
   rows_marked : (n : ℕ) {o : At} {count : ℕ} (p q : At) (bytes text : List ℕ) → 0 < length columns → length p.held.waiting < 4096
       → N.WritesNbcRows charset columns n bytes text → Passes p q bytes text → RowsAt N.NbcRow charset columns o p count (N.nbc_row_start columns)
       → RowsAt N.NbcRow charset columns o q (count + n) (N.nbc_row_start columns)
-  rows_marked N.zero {count = count} p q _ _ _ _ w y x =
-      let y' = rw (w.0, w.1) at y in
-      rw (N.add-zero count)
-      (rows_on x (record { bytes = []; made = []; writes = writes_none; takes = y'.takes; puts = y'.puts; place_is = y'.place_is }))
+  rows_marked N.zero {count = count} p q _ _ _ _ w y x = rw (N.add-zero count) (rows_stay x (rw (w.0, w.1) at y))
   rows_marked (N.suc n) {count = count} p q _ _ some few (front, row, before, line, joined, text_is, earlier, last) y x =
       let token = N.token_byte N.NbcRow ∷ [] in
       let t = passes_apart p q front (row ++ token) before line (rw (joined, text_is) at y) in
@@ -457,40 +589,88 @@ module _ {charset : Charset} {columns : List Column} where
       rows_row (rows_marked n p t.0 front earlier_text some few earlier t.1 x)
       (whole_row {p = t.0} {q = q} last.bitmap last.cells line some last.whole joined_line t.1.few delivered last.writes)
 
--- NBCROWs were read and their lines put, this many, and the token byte of one more, whatever columns the row format knows.
-abbrev pub NbcRowsHere : {R W : Type 0} → (R → Option (List ℕ)) → (W → Option (List ℕ)) → At → Rows R W → ℕ → Type 0
-NbcRowsHere remaining contents p rows count = (columns : List Column) → Knows rows.row_format.now columns
-    → RowsAt N.NbcRow rows.row_format.now.charset columns p (here remaining contents rows) count (N.nbc_row_start columns)
+-- ---- rows of either kind, row after row
 
-module _ {R W : Type 0} {remaining : R → Option (List ℕ)} {contents : W → Option (List ℕ)} {old new : Rows R W} (in_row : IsInRow old)
-    (stays : StaysInRow old new) where
-  taken_passes : {columns : List Column} {n : ℕ} {last : Bool} (x : N.RowsTaken remaining contents columns old new n last)
-      → Passes (here remaining contents old) (here remaining contents new) x.bytes x.text
-  taken_passes x = let sink = stays.in_row.sink in record {
-    takes = x.takes;
-    between = N.between_of remaining new.payload.now stays.in_row.payload.going;
-    puts = x.puts;
-    few = sink.ready.1 sink.writing;
-    delivered = in_row.sink.ready.2;
-    place_is = x.place_is;
-  }
+-- Rows were read and their lines put, this many, and the token byte of one more, whatever columns the row format knows.
+pub record RowsCome {R W : Type 0} (remaining : R → Option (List ℕ)) (contents : W → Option (List ℕ)) (token : N.RowToken) (first rows : Rows R W)
+    (count : ℕ) : Type 0 where
+  pub kept : StaysInRow first rows
+  pub reads : (columns : List Column) → Knows first.row_format.now columns
+      → RowsAt token first.row_format.now.charset columns (here remaining contents first) (here remaining contents rows) count
+      (N.token_start token first.row_format.now.charset columns)
 
-  module _ {p : At} {count n : ℕ} {last : Bool} (some : 0 < old.row_format.now.count)
-      (taken : (columns : List Column) → Knows old.row_format.now columns → N.RowsTaken remaining contents columns old new n last)
-      (reads : NbcRowsHere remaining contents p old count) where
-    -- another follows
-    pub rows_taken : last ≡ N.false → NbcRowsHere remaining contents p new (count + n)
-    rows_taken more columns known =
-        let knows = rw stays.same.3 at known in
-        let x = taken columns knows in
-        rw stays.same.3 (rows_marked n _ _ _ _ (omega (arith, knows.counted)) (in_row.sink.ready.1 in_row.sink.writing) (rw more at x.writes)
-        (taken_passes x) (reads columns knows))
+module _ {R W : Type 0} {remaining : R → Option (List ℕ)} {contents : W → Option (List ℕ)} where
+  pub come_first : {token : N.RowToken} {first : Rows R W} → IsInRow first → RowsCome remaining contents token first first 0
+  come_first in_row = record { kept = stays in_row; reads = λ columns knows. rows_first in_row.sink.ready.2 }
 
-    -- no other follows
-    pub rows_last : last ≡ N.true → (columns : List Column) → Knows new.row_format.now columns
-        → over (N.ReadsRows N.NbcRow new.row_format.now.charset columns (count + n + 1)) p (here remaining contents new)
-    rows_last end columns known =
-        let knows = rw stays.same.3 at known in
-        let x = taken columns knows in
-        rw stays.same.3 (rows_whole_last n _ _ _ _ (omega (arith, knows.counted)) (in_row.sink.ready.1 in_row.sink.writing) stays.in_row.sink.ready.2
-        (rw end at x.writes) (taken_passes x) (reads columns knows))
+  module _ {first old new : Rows R W} {count n : ℕ} {last : Bool} (stays : StaysInRow old new) (some : 0 < old.row_format.now.count)
+      (taken : (columns : List Column) → Knows old.row_format.now columns → N.RowsTaken remaining contents columns old new n last) where
+    -- after NBCROWs that went at once, of ROWs none, which another follows
+    pub come_taken : (token : N.RowToken) → (token ≡ N.PlainRow → (n ≡ 0) × (last ≡ false)) → RowsCome remaining contents token first old count
+        → last ≡ false → RowsCome remaining contents token first new (count + n)
+    come_taken N.PlainRow none x more = record {
+      kept = stays_on x.kept stays;
+      reads = λ columns knows.
+          let y = taken columns (rw (← x.kept.same.3) at knows) in
+          let w = rw ((none refl).0, more) at y.writes in
+          let passes = passes_on remaining contents x.kept.in_row stays.in_row y.takes y.puts y.place_is in
+          rw ((none refl).0, N.add-zero count) (rows_stay (x.reads columns knows) (rw (w.0, w.1) at passes));
+    }
+    come_taken N.NbcRow _ x more = record {
+      kept = stays_on x.kept stays;
+      reads = λ columns knows.
+          let known = rw (← x.kept.same.3) at knows in
+          let y = taken columns known in
+          let sink = x.kept.in_row.sink in
+          rows_marked n _ _ _ _ (omega (arith, known.counted, some)) (sink.ready.1 sink.writing) (rw (x.kept.same.3, more) at y.writes)
+          (passes_on remaining contents x.kept.in_row stays.in_row y.takes y.puts y.place_is) (x.reads columns knows);
+    }
+
+    -- and the last, which no other follows
+    pub come_last : {columns : List Column} (token : N.RowToken) → (token ≡ N.PlainRow → (n ≡ 0) × (last ≡ false))
+        → RowsCome remaining contents token first old count → last ≡ true → Knows first.row_format.now columns
+        → over (N.ReadsRows token first.row_format.now.charset columns (count + n + 1)) (here remaining contents first) (here remaining contents new)
+    come_last N.PlainRow none _ end _ = absurd (true≢false (N.sym end ∙ (none refl).1))
+    come_last N.NbcRow _ x end knows =
+        let known = rw (← x.kept.same.3) at knows in
+        let y = taken _ known in
+        let sink = x.kept.in_row.sink in
+        rows_whole_last n _ _ _ _ (omega (arith, known.counted, some)) (sink.ready.1 sink.writing) stays.in_row.sink.ready.2
+        (rw (x.kept.same.3, end) at y.writes) (passes_on remaining contents x.kept.in_row stays.in_row y.takes y.puts y.place_is) (x.reads _ knows)
+
+  module _ {first old new : Rows R W} {count : ℕ} where
+    -- a row more was read, or several
+    pub come_rows : {columns : List Column} {n : ℕ} (token : N.RowToken) → RowsCome remaining contents token first old count → N.LeavesRows old new (Ok n)
+        → ((columns : List Column) → Knows old.row_format.now columns → SomeHere remaining contents token columns old new (Ok n))
+        → Knows first.row_format.now columns
+        → over (N.ReadsRows token first.row_format.now.charset columns (count + n)) (here remaining contents first) (here remaining contents new)
+    come_rows N.PlainRow x _ read knows =
+        rows_more (x.reads _ knows) {r = here remaining contents new} (rw x.kept.same.3 at (read _ (rw (← x.kept.same.3) at knows)))
+    come_rows N.NbcRow x _ read knows =
+        let y = rw x.kept.same.3 at (read _ (rw (← x.kept.same.3) at knows)) in
+        rw y.0 (rows_row (x.reads _ knows) y.1)
+
+    -- and the token byte of the next
+    pub come_next : {after : Rows R W} {n : ℕ} (token : N.RowToken) → RowsCome remaining contents token first old count → 0 < old.row_format.now.count
+        → N.LeavesRows old new (Ok n)
+        → ((columns : List Column) → Knows old.row_format.now columns → SomeHere remaining contents token columns old new (Ok n))
+        → StaysInRow new after → after.sink.now ≡ new.sink.now → N.TokenTaken remaining token new.payload.now after.payload.now true
+        → RowsCome remaining contents token first after (count + n)
+    come_next token x some leaves read stays sink taken =
+        let kept = stays_on x.kept (stays_after x.kept.in_row leaves) in
+        record {
+          kept = stays_on kept stays;
+          reads = λ columns knows.
+              rows_token (omega (arith, (rw (← x.kept.same.3) at knows).counted, some)) (come_rows token x leaves read knows) taken.0
+              (none_put contents sink kept.in_row.sink.ready.2) taken.1;
+        }
+
+    -- they stopped
+    pub come_stops : {columns : List Column} {stop : Stop} (token : N.RowToken) → RowsCome remaining contents token first old count
+        → N.LeavesRows {U = ℕ} old new (Err stop)
+        → ((columns : List Column) → Knows old.row_format.now columns → SomeHere remaining contents token columns old new (Err stop))
+        → Knows first.row_format.now columns
+        → N.RowsStop token first.row_format.now.charset columns (seen remaining first.payload.now) (seen remaining new.payload.now) first.payload.now.place
+        (held contents first.sink.now) (held contents new.sink.now) new.sink.now.failed stop
+    come_stops N.PlainRow x _ read knows = rows_more_stop (x.reads _ knows) (rw x.kept.same.3 at (read _ (rw (← x.kept.same.3) at knows)))
+    come_stops N.NbcRow x _ read knows = rows_stop (x.reads _ knows) (rw x.kept.same.3 at (read _ (rw (← x.kept.same.3) at knows))).1

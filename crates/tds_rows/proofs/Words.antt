@@ -78,8 +78,8 @@ pub use Rattle.tds_cells.specs.MarkedRuns.{WritesNext}
 pub use Rattle.tds_rows.specs.PassedCells.{CellPassed, StepsOver, StopsPassing, IsGoodValue, CutsPassing, return_cell, PassesData, PassesCell, AnyData}
 pub use Rattle.tds_rows.specs.RowRuns.{RunRead}
 pub use Rattle.tds_cells.specs.MarkedRows.{WritesNbcRows, WritesWholeRows}
-pub use Rattle.tds_rows.specs.RowReading.{CellRead, KindRead, LeavesRows, IsInRow, RowsTaken, StaysInRow, NextRead}
-pub use Rattle.tds_rows.specs.RowSteps.{ReadsRow, ReadsRows, RowsRead, RowStops, RowsStop}
+pub use Rattle.tds_rows.specs.RowReading.{BitmapRead, CellRead, KindRead, LeavesRows, IsInRow, MarkedBy, RowsTaken, StaysInRow, NextRead, TokenTaken}
+pub use Rattle.tds_rows.specs.RowSteps.{ReadsRow, ReadsRows, RowsRead, RowStops, RowsStop, SomeRead}
 pub use Rattle.tds_cells.specs.Rows.{marked, WholeRow, bitmap_length, bit, RowToken, Bitmap, PlainRow, with_cell, RowPart}
 pub use Rattle.tds_cells.specs.Rows.{row, SpellsRowAs, NbcRow, row_so_far, InCell, token_byte, row_start, token_start}
 pub use Rattle.tds_cells.specs.Rows.{next_cell, nbc_row_start}

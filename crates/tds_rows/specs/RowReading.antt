@@ -1,10 +1,10 @@
 -- The reading of rows as the contracts of its steps see it.
-use Rattle.std.specs.Prelude.{◌≡◌, ◌==◌, ◌+◌, ◌<◌, ◌≤◌, ℕ, Bool, true, false, List, [], ◌∷◌, length, Option, Result}
+use Rattle.std.specs.Prelude.{⊤, ◌≡◌, ◌==◌, ◌+◌, ◌<◌, ◌≤◌, ℕ, Bool, true, false, List, [], ◌∷◌, length, Option, Result, MatchResult, is_ok}
 use Rattle.tds_values.specs.declared.kind.Kind.{Kind}
 use Rattle.tds_packet.specs.declared.fault.Stop.{Stop}
 use Rattle.tds_packet.specs.declared.payload.Payload.{Payload}
 use Rattle.tds_packet.specs.Payloads.{IsGoing, IsOnSame, IsSound, LeavesPayload, buffered, seen}
-use Rattle.tds_packet.specs.PayloadView.{Takes}
+use Rattle.tds_packet.specs.PayloadView.{IsBetween, PayloadView, Takes}
 use Rattle.tds_columns.specs.Description.{Column}
 use Rattle.tds_text.specs.Quoting.{in_line, null_field}
 use Rattle.tds_csv.specs.declared.sink.Sink.{Sink}
@@ -16,10 +16,12 @@ use Rattle.tds_cells.specs.Layouts.{IsLaidOut}
 use Rattle.tds_cells.specs.Cells.{CellPart}
 use Rattle.tds_meter.specs.Space.{Space}
 use Rattle.tds_rows.specs.CellSteps.{CellPut, FieldPut, LeavesSmall, longest_cell}
-use Rattle.tds_cells.specs.Rows.{RowPart, RowToken, longest_bitmap, token_byte}
+use Rattle.tds_cells.specs.Rows.{NbcRow, PlainRow, RowPart, RowToken, bitmap_length, longest_bitmap, token_byte}
 use Rattle.tds_cells.specs.MarkedRows.{WritesWholeRows}
 use Rattle.tds_cells.specs.MarkedRuns.{Covers}
 use Rattle.tds_cells.specs.declared.nulls.Nulls.{Nulls}
+use Rattle.tds_cells.specs.declared.nulls.Nulls.TheVariants.{Marked, Unmarked}
+use Rattle.tds_rows.specs.LongCells.{CutsNumber}
 use Rattle.tds_rows.specs.RowSteps.{RowPut}
 use Rattle.tds_cells.specs.Rows.{BeginNoRow}
 use Rattle.tds_cells.specs.RowFormats.{IsNextKind, KnowsSome}
@@ -121,6 +123,13 @@ NextRead remaining contents at kind true old new result =
     (in_line at.column (at.column + 1 == old.row_format.now.count) null_field) result
 NextRead remaining contents at kind false old new result = CellRead remaining contents at kind old new result
 
+-- The bitmap of a row of so many columns was read, these bytes.
+pub record ReadsBitmap (columns : ℕ) (bytes : List ℕ) (old new : PayloadView) (place place' : ℕ) : Type 0 where
+  pub whole : length bytes ≡ bitmap_length columns
+  pub takes : Takes old new bytes (length bytes)
+  pub between : IsBetween new
+  pub place_is : place' ≡ place + length bytes
+
 -- A bitmap can be read into the area: it is empty, and has room for the longest.
 pub record AwaitsBitmap (bitmap : Space) : Type 0 where
   pub empty : bitmap.bytes ≡ []
@@ -131,6 +140,19 @@ pub record AwaitsBitmap (bitmap : Space) : Type 0 where
 abbrev pub RowRead : {R W U : Type 0} → (R → Option (List ℕ)) → (W → Option (List ℕ)) → RowPart → Rows R W → Rows R W → Result U Stop → Type 0
 RowRead remaining contents start old new result =
     RowPut remaining contents old.row_format.now.charset start old.payload.now new.payload.now old.sink.now new.sink.now result
+
+-- The bits of a row are these: those of a bitmap of these bytes, or none of a ROW.
+abbrev pub MarkedBy : RowToken → List ℕ → Nulls → Type 0
+MarkedBy PlainRow bytes Unmarked = ⊤
+MarkedBy NbcRow bytes (Marked bitmap) = bitmap.now ≡ bytes
+MarkedBy token bytes nulls = ⊥
+
+-- These bytes were read, the bitmap of an NBCROW of so many columns, or the payload stopped in it; of a ROW nothing was read.
+abbrev pub BitmapRead : {R U : Type 0} → (R → Option (List ℕ)) → RowToken → Payload R → Payload R → List ℕ → ℕ → Result U Stop → Type 0
+BitmapRead remaining PlainRow old new bytes columns result = (new ≡ old) × (is_ok result ≡ true)
+BitmapRead remaining NbcRow old new bytes columns result = MatchResult result
+    (λ _. ReadsBitmap columns bytes (seen remaining old) (seen remaining new) old.place new.place)
+    (λ stop. CutsNumber (bitmap_length columns) (seen remaining old) (seen remaining new) old.place stop)
 
 -- This many NBCROWs were read from this state on, without a packet, each before the token byte of the next, which was read too, and one more if that is
 -- the last; and their lines were put.

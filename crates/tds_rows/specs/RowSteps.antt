@@ -1,5 +1,5 @@
 -- What reading a row and putting its line does. Its start is that of a ROW or of an NBCROW.
-use Rattle.std.specs.Prelude.{◌≡◌, ◌⊎◌, ◌+◌, ℕ, Bool, List, length, Option, None, Some, true, false, Result, Err, IfSome, MatchOption, MatchResult}
+use Rattle.std.specs.Prelude.{◌≡◌, ◌⊎◌, ◌+◌, ℕ, Bool, List, length, Option, None, Some, true, false, Result, Err, IfOk, IfSome, MatchOption, MatchResult}
 use Rattle.tds_packet.specs.declared.fault.Stop.{Stop}
 use Rattle.tds_packet.specs.declared.payload.Payload.{Payload}
 use Rattle.tds_packet.specs.Payloads.{seen}
@@ -10,7 +10,7 @@ use Rattle.tds_csv.specs.Sinks.{SinkView, held, stop_of}
 use Rattle.tds_csv.specs.Streaming.{StopsStreaming, Streams}
 use Rattle.tds_values.specs.declared.charset.Charset.{Charset}
 use Rattle.tds_cells.specs.Cells.{Cell}
-use Rattle.tds_cells.specs.Rows.{RowPart, RowToken, WholeRow, row, row_so_far}
+use Rattle.tds_cells.specs.Rows.{NbcRow, PlainRow, RowPart, RowToken, WholeRow, nbc_row_start, row, row_so_far}
 use Rattle.tds_cells.specs.Runs.{rows, rows_so_far, rows_start}
 
 -- A row was read, and its line put.
@@ -60,6 +60,14 @@ RowsRead remaining contents token charset columns old new before after result = 
     (held contents after))
     (λ stop. RowsStop token charset columns (seen remaining old) (seen remaining new) old.place (held contents before) (held contents after)
     after.failed stop)
+
+-- An NBCROW was read and its line put, or ROWs, this many, and their lines; or the call stopped.
+abbrev pub SomeRead : {R W : Type 0} → (R → Option (List ℕ)) → (W → Option (List ℕ)) → RowToken → Charset → List Column → Payload R → Payload R
+    → Sink W → Sink W → Result ℕ Stop → Type 0
+SomeRead remaining contents PlainRow charset columns old new before after result =
+    RowsRead remaining contents PlainRow charset columns old new before after result
+SomeRead remaining contents NbcRow charset columns old new before after result = IfOk result (λ count. count ≡ 1)
+    × RowPut remaining contents charset (nbc_row_start columns) old new before after result
 
 -- A payload or a sink that had stopped gives its stop again, the payload's first, and nothing changes.
 pub record StopsAgain {R W U : Type 0} (contents : W → Option (List ℕ)) (old new : Payload R) (before after : Sink W) (result : Result U Stop) : Type

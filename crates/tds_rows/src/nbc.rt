@@ -1,20 +1,20 @@
-// A row with a bitmap of the columns that are NULL, and such rows after one another (MS-TDS, NBCROW).
-ghost use Rattle.std.specs.Prelude.{true, ◌≡◌, ◌<◌, ◌≤◌, ◌+◌, List, IfOk};
-ghost use Rattle.tds_cells.specs.Rows.{BeginNoRow, NbcRow, longest_bitmap, nbc_row_start};
+// What a bitmap adds to a row: the columns that are NULL by their bit, and rows that go at once (MS-TDS, NBCROW).
+ghost use Rattle.std.specs.Prelude.{true, false, ◌≡◌, ◌+◌, ◌≤◌, [], List, ℕ, refl};
+ghost use Rattle.tds_cells.specs.Rows.{BeginNoRow, NbcRow, PlainRow, RowToken, longest_bitmap, token_byte};
 ghost use Rattle.tds_columns.specs.Description.{Column};
-ghost use Rattle.tds_packet.specs.Payloads.{buffered};
+ghost use Rattle.tds_meter.specs.Space.{Space, empty};
+ghost use Rattle.tds_packet.specs.Payloads.{IsGoing, LeavesPayload, buffered};
 ghost use Rattle.tds_packet.specs.Reads.{KeepsRoom};
-ghost use Rattle.tds_rows.specs.RowReading.{AwaitsBitmap, IsAtCell, EndsRows, IsInSomeRow, LeavesRows, NextRead, RowRead, RowsTaken, StaysInRow};
-ghost use Rattle.tds_rows.specs.RowSteps.{RowsRead};
+ghost use Rattle.tds_rows.specs.RowReading.{AwaitsBitmap, BitmapRead, IsAtCell, IsInSomeRow, LeavesRows, MarkedBy, NextRead, RowsTaken, StaysInRow};
 ghost use Rattle.tds_cells.specs.RowFormats.{Knows};
 
 use crate::cell::null::put_null;
 use crate::rows::Rows;
 use std::io::{Read, Write};
-use tds_cells::{CellFormat, Cursor, NBCROW, Nulls, bitmap_size};
+use tds_cells::{CellFormat, Cursor, NBCROW, Nulls, ROW, bitmap_size};
 use tds_columns::read_into;
 use tds_meter::Area;
-use tds_packet::Stop;
+use tds_packet::{Payload, Stop};
 
 // How many bytes the text of each cell has of a row that is likely to have room in the block.
 const SHORT_CELL: usize = 4;
@@ -22,27 +22,113 @@ const SHORT_CELL: usize = 4;
 /// The most bytes that a bitmap has. A call that reads NBCROWs needs room for it in the bitmap's area.
 pub const LONGEST_BITMAP: usize = 8192;
 
+/// Where a row tells which of its columns are NULL: an NBCROW in its bitmap, which is read into an area, a ROW nowhere.
+pub(crate) trait Marks: Sized {
+    /// The token byte of such rows.
+    const TOKEN: u8;
+
+    ghost TOKEN: { ℕ };
+
+    /// Their token.
+    ghost token: { RowToken };
+
+    /// The area as contracts see it.
+    ghost space: { Self → Space };
+
+    /// Takes the last row's bitmap away.
+    fn empty(&mut self)
+        ensures empty { (space self.new).bytes ≡ [] }
+        ensures room { KeepsRoom (space self.old) (space self.new) };
+
+    /// Reads the bitmap of a row of so many columns.
+    fn begin<R: Read>(&mut self, payload: &mut Payload<'_, R>, columns: u16) -> Result<(), Stop>
+        requires going { IsGoing payload.old }
+        requires awaits { AwaitsBitmap (space self.old) }
+        ensures payload { LeavesPayload payload.old payload.new result }
+        ensures room { KeepsRoom (space self.old) (space self.new) }
+        ensures bitmap { BitmapRead R.remaining token payload.old payload.new (space self.new).bytes columns result };
+
+    /// Which columns are NULL by a bit.
+    fn nulls(&self) -> Nulls<'_>
+        ensures { MarkedBy token (space self.now).bytes result };
+
+    /// The token byte is that token's.
+    ghost named: { token_byte token ≡ TOKEN };
+}
+
+/// There is no bitmap, as in ROWs.
+#[derive(Drop)]
+pub(crate) struct NoBitmap;
+
+impl Marks for NoBitmap {
+    const TOKEN: u8 = ROW;
+
+    ghost TOKEN = { 0xD1 };
+
+    ghost token = { PlainRow };
+
+    ghost space = { λ _. empty longest_bitmap };
+
+    fn empty(&mut self) {}
+
+    fn begin<R: Read>(&mut self, _payload: &mut Payload<'_, R>, _columns: u16) -> Result<(), Stop> {
+        Ok(())
+    }
+
+    fn nulls(&self) -> Nulls<'_> {
+        Nulls::Unmarked
+    }
+
+    ghost named = { refl };
+}
+
+impl Marks for Area {
+    const TOKEN: u8 = NBCROW;
+
+    ghost TOKEN = { 0xD2 };
+
+    ghost token = { NbcRow };
+
+    ghost space = { λ area. area };
+
+    fn empty(&mut self) {
+        self.clear();
+    }
+
+    fn begin<R: Read>(&mut self, payload: &mut Payload<'_, R>, columns: u16) -> Result<(), Stop> {
+        read_into(payload, self, bitmap_size(columns))
+    }
+
+    fn nulls(&self) -> Nulls<'_> {
+        Nulls::Marked(self.bytes())
+    }
+
+    ghost named = { refl };
+}
+
 // How many NBCROWs were put whose next one's token byte was taken, and whether one more was, which no other follows.
 #[derive(Clone, Copy)]
-struct PutRows {
-    rows: u64,
-    last: bool,
+pub(crate) struct PutRows {
+    pub(crate) rows: u64,
+    pub(crate) last: bool,
 }
 
 impl<'r, 't, 'p, 's, 'c, R: Read, W: Write> Rows<'r, 't, 'p, 's, 'c, R, W> {
     // Puts the lines of the next NBCROWs, as many as are whole in the packet, away from its end, and have room in the block,
-    // and takes the token byte after each but the last. It reads nothing and delivers nothing.
+    // and takes the token byte after each but the last. It reads nothing and delivers nothing. Of ROWs it takes none.
     #[inline(always)]
-    fn put_whole_rows(&mut self) -> PutRows
+    pub(crate) fn put_whole_rows<M: Marks>(&mut self) -> PutRows
         requires { IsInSomeRow self.old }
         ensures stays { StaysInRow self.old self.new }
         ensures few { self.old.payload.now.place + result.rows ≤ self.new.payload.now.place }
-        ensures none { result.last ≡ true → BeginNoRow NbcRow (buffered self.new.payload.now) }
+        ensures none { result.last ≡ true → BeginNoRow M.token (buffered self.new.payload.now) }
+        ensures plain { M.token ≡ PlainRow → (result.rows ≡ 0) × (result.last ≡ false) }
         ensures rows { (columns : List Column) → Knows self.old.row_format.now columns →
             RowsTaken R.remaining W.contents columns self.old self.new result.rows result.last }
     {
         let room = self.sink.room() - 1;
-        if !self.row_format.knows_all() || room < SHORT_CELL * self.row_format.count() as usize {
+        let short = SHORT_CELL * self.row_format.count() as usize;
+        if M::TOKEN != NBCROW || !self.row_format.knows_all() || room < short {
             return PutRows {
                 rows: 0,
                 last: false,
@@ -60,7 +146,12 @@ impl<'r, 't, 'p, 's, 'c, R: Read, W: Write> Rows<'r, 't, 'p, 's, 'c, R, W> {
     }
 
     // Puts the next cell: NULL, or the cell that it reads.
-    fn put_next(&mut self, at: Cursor<'c>, format: &CellFormat, null: bool) -> Result<(), Stop>
+    pub(crate) fn put_next(
+        &mut self,
+        at: Cursor<'c>,
+        format: &CellFormat,
+        null: bool,
+    ) -> Result<(), Stop>
         requires { IsAtCell self.old at format.now }
         ensures leaves { LeavesRows self.old self.new result }
         ensures cell { NextRead R.remaining W.contents at.entry format.now.kind null self.old self.new result }
@@ -69,57 +160,5 @@ impl<'r, 't, 'p, 's, 'c, R: Read, W: Write> Rows<'r, 't, 'p, 's, 'c, R, W> {
             return put_null(at.column, self.row_format.is_last(at), self.sink);
         }
         self.put_cell(at, format)
-    }
-
-    /// Reads an NBCROW after its token byte, its bitmap into an empty area, and puts its line.
-    #[inline(never)]
-    pub(crate) fn nbc_row(&mut self, bitmap: &mut Area) -> Result<(), Stop>
-        requires some { IsInSomeRow self.old }
-        requires awaits { AwaitsBitmap bitmap.old }
-        ensures leaves { LeavesRows self.old self.new result }
-        ensures bitmap { KeepsRoom bitmap.old bitmap.new }
-        ensures row { (columns : List Column) → Knows self.old.row_format.now columns →
-            RowRead R.remaining W.contents (nbc_row_start columns) self.old self.new result }
-    {
-        read_into(self.payload, bitmap, bitmap_size(self.row_format.count()))?;
-        let nulls = Nulls::Marked(bitmap.bytes());
-        let mut at = self.row_format.start();
-        loop {
-            self.put_run(&mut at, nulls)?;
-            let Some((format, after)) = self.row_format.next(at) else {
-                return Ok(());
-            };
-            self.put_next(at, &format, nulls.is_null(at.column))?;
-            at = after;
-        }
-    }
-
-    /// Reads an NBCROW and those that follow it in its packet, each with at most its bitmap in the area, and puts
-    /// their lines. Returns how many they are.
-    #[inline(never)]
-    pub(crate) fn nbc_rows(&mut self, bitmap: &mut Area) -> Result<u64, Stop>
-        requires some { IsInSomeRow self.old }
-        requires room { longest_bitmap ≤ bitmap.old.room }
-        ensures leaves { LeavesRows self.old self.new result }
-        ensures bitmap { KeepsRoom bitmap.old bitmap.new }
-        ensures ends { IfOk result (λ count. EndsRows NbcRow self.old.payload.now self.new.payload.now count) }
-        ensures rows { (columns : List Column) → Knows self.old.row_format.now columns →
-            RowsRead R.remaining W.contents NbcRow self.old.row_format.now.charset columns
-            self.old.payload.now self.new.payload.now self.old.sink.now self.new.sink.now result }
-    {
-        let mut ended: u64 = 0;
-        loop {
-            bitmap.clear();
-            let whole = self.put_whole_rows();
-            ended += whole.rows;
-            if whole.last {
-                return Ok(ended + 1);
-            }
-            self.nbc_row(bitmap)?;
-            ended += 1;
-            if !self.take_token(NBCROW) {
-                return Ok(ended);
-            }
-        }
     }
 }

@@ -11,6 +11,7 @@ ghost use Rattle.tds_cells.specs.RowFormats.{Learns};
 ghost use Rattle.tds_cells.specs.Rows.{BeginNoRow};
 ghost use Rattle.tds_rows.specs.Successes.{SpellsRows, SucceedsOn};
 
+use crate::nbc::{Marks, NoBitmap};
 use crate::rows::Rows;
 use std::io::{Read, Write};
 use tds_cells::{CellFormat, FEW_COLUMNS, Learnt, MANY_COLUMNS, RowFormat, SOME_COLUMNS, blank};
@@ -70,22 +71,24 @@ pub fn row<R: Read, W: Write>(
     rows.row()
 }
 
-// Reads rows as `read_rows` does, by a row format of these formats.
+// Reads rows as `read_rows` and `read_nbc_rows` do, by a row format of these formats.
 #[inline(always)]
-fn rows_in<'a, R: Read, W: Write>(
+fn rows_in<'a, M: Marks, R: Read, W: Write>(
     payload: &mut Payload<R>,
     columns: Columns<'a>,
     charset: Charset,
     formats: &'a [CellFormat],
     learnt: Learnt<'a>,
+    marks: &mut M,
     small: &mut Area,
     sink: &mut Sink<W>,
 ) -> Result<u64, Stop>
     requires learnt { Learns (columns_of columns.bytes.now) charset formats.now learnt }
-    requires rows { AwaitsRows payload.old sink.old small.old }
+    requires rows { AwaitsNbcRows payload.old sink.old small.old (M.space marks.old) }
     ensures leaves { LeavesLent payload.old payload.new sink.old sink.new small.old small.new result }
-    ensures ends { IfOk result (λ count. EndsRows PlainRow payload.old payload.new count) }
-    ensures rows { RowsRead R.remaining W.contents PlainRow charset (columns_of columns.entry.bytes.now)
+    ensures room { KeepsRoom (M.space marks.old) (M.space marks.new) }
+    ensures ends { IfOk result (λ count. EndsRows M.token payload.old payload.new count) }
+    ensures rows { RowsRead R.remaining W.contents M.token charset (columns_of columns.entry.bytes.now)
         payload.old payload.new sink.old sink.new result }
 {
     let row_format = RowFormat::of(columns, charset, formats, learnt);
@@ -95,29 +98,60 @@ fn rows_in<'a, R: Read, W: Write>(
         small,
         row_format: &row_format,
     };
-    rows.rows()
+    rows.rows(marks)
 }
 
-// Reads rows as `read_rows` does, by a row format that knows the first `N` columns at most. Its room is a local variable, and a call
-// takes time for each byte of that, so each room has a function of its own.
+// Reads rows so, by a row format that knows the first `N` columns at most. Its room is a local variable, and a call takes time for
+// each byte of that, so each room has a function of its own.
 #[inline(never)]
-fn rows_by<const N: usize, R: Read, W: Write>(
+fn rows_by<const N: usize, M: Marks, R: Read, W: Write>(
     payload: &mut Payload<R>,
     columns: Columns<'_>,
     charset: Charset,
+    marks: &mut M,
     small: &mut Area,
     sink: &mut Sink<W>,
 ) -> Result<u64, Stop>
     requires few { N ≤ most_known }
-    requires rows { AwaitsRows payload.old sink.old small.old }
+    requires rows { AwaitsNbcRows payload.old sink.old small.old (M.space marks.old) }
     ensures leaves { LeavesLent payload.old payload.new sink.old sink.new small.old small.new result }
-    ensures ends { IfOk result (λ count. EndsRows PlainRow payload.old payload.new count) }
-    ensures rows { RowsRead R.remaining W.contents PlainRow charset (columns_of columns.entry.bytes.now)
+    ensures room { KeepsRoom (M.space marks.old) (M.space marks.new) }
+    ensures ends { IfOk result (λ count. EndsRows M.token payload.old payload.new count) }
+    ensures rows { RowsRead R.remaining W.contents M.token charset (columns_of columns.entry.bytes.now)
         payload.old payload.new sink.old sink.new result }
 {
     let mut formats = [blank(); N];
     let learnt = RowFormat::learn(columns, charset, &mut formats);
-    rows_in(payload, columns, charset, &formats, learnt, small, sink)
+    rows_in(
+        payload, columns, charset, &formats, learnt, marks, small, sink,
+    )
+}
+
+// Reads rows so, by a row format whose room is that of so many columns.
+#[inline(always)]
+fn read_marked<M: Marks, R: Read, W: Write>(
+    payload: &mut Payload<R>,
+    columns: Columns<'_>,
+    charset: Charset,
+    marks: &mut M,
+    small: &mut Area,
+    sink: &mut Sink<W>,
+) -> Result<u64, Stop>
+    requires { AwaitsNbcRows payload.old sink.old small.old (M.space marks.old) }
+    ensures leaves { LeavesLent payload.old payload.new sink.old sink.new small.old small.new result }
+    ensures room { KeepsRoom (M.space marks.old) (M.space marks.new) }
+    ensures ends { IfOk result (λ count. EndsRows M.token payload.old payload.new count) }
+    ensures rows { RowsRead R.remaining W.contents M.token charset (columns_of columns.entry.bytes.now)
+        payload.old payload.new sink.old sink.new result }
+{
+    let count = columns.count() as usize;
+    if count <= FEW_COLUMNS {
+        return rows_by::<FEW_COLUMNS, M, R, W>(payload, columns, charset, marks, small, sink);
+    }
+    if count <= SOME_COLUMNS {
+        return rows_by::<SOME_COLUMNS, M, R, W>(payload, columns, charset, marks, small, sink);
+    }
+    rows_by::<MANY_COLUMNS, M, R, W>(payload, columns, charset, marks, small, sink)
 }
 
 /// Reads a ROW after its token byte, and the ROWs after it as long as the next token byte is in the packet
@@ -140,14 +174,7 @@ pub fn read_rows<R: Read, W: Write>(
         SpellsRows PlainRow charset (columns_of columns.entry.bytes.now) first later bytes → BeginNoRow PlainRow more →
         SucceedsOn R.remaining payload.old payload.new sink.old sink.new result (bytes ++ more) }
 {
-    let count = columns.count() as usize;
-    if count <= FEW_COLUMNS {
-        return rows_by::<FEW_COLUMNS, R, W>(payload, columns, charset, small, sink);
-    }
-    if count <= SOME_COLUMNS {
-        return rows_by::<SOME_COLUMNS, R, W>(payload, columns, charset, small, sink);
-    }
-    rows_by::<MANY_COLUMNS, R, W>(payload, columns, charset, small, sink)
+    read_marked(payload, columns, charset, &mut NoBitmap, small, sink)
 }
 
 /// Reads an NBCROW after its token byte, and puts its line (MS-TDS, NBCROW). The bitmap is read into
@@ -191,62 +218,8 @@ pub fn nbc_row<R: Read, W: Write>(
         small,
         row_format: &row_format,
     };
-    rows.nbc_row(bitmap)
-}
-
-// Reads NBCROWs as `read_nbc_rows` does, by a row format of these formats.
-fn nbc_rows_in<'a, R: Read, W: Write>(
-    payload: &mut Payload<R>,
-    columns: Columns<'a>,
-    charset: Charset,
-    formats: &'a [CellFormat],
-    learnt: Learnt<'a>,
-    bitmap: &mut Area,
-    small: &mut Area,
-    sink: &mut Sink<W>,
-) -> Result<u64, Stop>
-    requires learnt { Learns (columns_of columns.bytes.now) charset formats.now learnt }
-    requires rows { AwaitsNbcRows payload.old sink.old small.old bitmap.old }
-    ensures leaves { LeavesLent payload.old payload.new sink.old sink.new small.old small.new result }
-    ensures bitmap { KeepsRoom bitmap.old bitmap.new }
-    ensures ends { IfOk result (λ count. EndsRows NbcRow payload.old payload.new count) }
-    ensures rows { RowsRead R.remaining W.contents NbcRow charset (columns_of columns.entry.bytes.now)
-        payload.old payload.new sink.old sink.new result }
-{
-    let row_format = RowFormat::of(columns, charset, formats, learnt);
-    let mut rows = Rows {
-        payload,
-        sink,
-        small,
-        row_format: &row_format,
-    };
-    rows.nbc_rows(bitmap)
-}
-
-// Reads rows as `read_nbc_rows` does, by a row format that knows the first `N` columns at most. Its room is a local variable, and a call
-// takes time for each byte of that, so each room has a function of its own.
-#[inline(never)]
-fn nbc_rows_by<const N: usize, R: Read, W: Write>(
-    payload: &mut Payload<R>,
-    columns: Columns<'_>,
-    charset: Charset,
-    bitmap: &mut Area,
-    small: &mut Area,
-    sink: &mut Sink<W>,
-) -> Result<u64, Stop>
-    requires few { N ≤ most_known }
-    requires rows { AwaitsNbcRows payload.old sink.old small.old bitmap.old }
-    ensures leaves { LeavesLent payload.old payload.new sink.old sink.new small.old small.new result }
-    ensures bitmap { KeepsRoom bitmap.old bitmap.new }
-    ensures ends { IfOk result (λ count. EndsRows NbcRow payload.old payload.new count) }
-    ensures rows { RowsRead R.remaining W.contents NbcRow charset (columns_of columns.entry.bytes.now)
-        payload.old payload.new sink.old sink.new result }
-{
-    let mut formats = [blank(); N];
-    let learnt = RowFormat::learn(columns, charset, &mut formats);
-    nbc_rows_in(
-        payload, columns, charset, &formats, learnt, bitmap, small, sink,
-    )
+    rows.row_by(bitmap)?;
+    Ok(())
 }
 
 /// Reads an NBCROW after its token byte, and the NBCROWs after it as long as the next token byte is in the
@@ -272,12 +245,5 @@ pub fn read_nbc_rows<R: Read, W: Write>(
         SpellsRows NbcRow charset (columns_of columns.entry.bytes.now) first later bytes → BeginNoRow NbcRow more →
         SucceedsOn R.remaining payload.old payload.new sink.old sink.new result (bytes ++ more) }
 {
-    let count = columns.count() as usize;
-    if count <= FEW_COLUMNS {
-        return nbc_rows_by::<FEW_COLUMNS, R, W>(payload, columns, charset, bitmap, small, sink);
-    }
-    if count <= SOME_COLUMNS {
-        return nbc_rows_by::<SOME_COLUMNS, R, W>(payload, columns, charset, bitmap, small, sink);
-    }
-    nbc_rows_by::<MANY_COLUMNS, R, W>(payload, columns, charset, bitmap, small, sink)
+    read_marked(payload, columns, charset, bitmap, small, sink)
 }

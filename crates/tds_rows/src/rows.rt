@@ -3,11 +3,12 @@ ghost use Rattle.std.specs.Prelude.{◌≡◌, ◌+◌, ◌<◌, ◌≤◌, ℕ,
 ghost use Rattle.tds_text.specs.Fields.{conversion_of};
 ghost use Rattle.tds_cells.specs.Cells.{LongShape, long_start};
 ghost use Rattle.tds_cells.specs.Layouts.{shape_of_layout};
-ghost use Rattle.tds_rows.specs.RowReading.{CellRead, ContentRead, EndsRows, IsAtCell, IsInMarkedRow, IsInRow, IsInSomeRow, LeavesRows, StaysInRow, TokenTaken, RowRead};
-ghost use Rattle.tds_cells.specs.Rows.{RowToken, token_byte, PlainRow, row_start};
+ghost use Rattle.tds_rows.specs.RowReading.{AwaitsBitmap, CellRead, ContentRead, EndsRows, IsAtCell, IsInMarkedRow, IsInRow, IsInSomeRow, LeavesRows, RowRead, StaysInRow, TokenTaken};
+ghost use Rattle.tds_cells.specs.Rows.{RowToken, longest_bitmap, row_start, token_byte};
 ghost use Rattle.tds_columns.specs.Description.{Column};
 ghost use Rattle.tds_packet.specs.Payloads.{buffered};
-ghost use Rattle.tds_rows.specs.RowSteps.{RowsRead};
+ghost use Rattle.tds_packet.specs.Reads.{KeepsRoom};
+ghost use Rattle.tds_rows.specs.RowSteps.{RowsRead, SomeRead};
 ghost use Rattle.tds_rows.specs.RunPuts.{RunPut};
 ghost use Rattle.tds_cells.specs.CellTexts.{IsLeft};
 ghost use Rattle.tds_cells.specs.Runs.{EndsRun};
@@ -18,6 +19,7 @@ ghost use Rattle.tds_values.specs.Kind as kinds;
 
 use crate::cell::gathered::{LONGEST_CELL, gather_scalar, length_size};
 use crate::cell::streamed::stream_long;
+use crate::nbc::Marks;
 use std::io::{Read, Write};
 use tds_cells::{CELL_ROOM, CellFormat, Cursor, Layout, Nulls, ROW, RowFormat};
 use tds_csv::{Cp1252Joiner, HexJoiner, Joiner, Sink, Utf8Joiner, Utf16Joiner, joiners_suit};
@@ -219,6 +221,7 @@ impl<'r, 't, 'p, 's, 'c, R: Read, W: Write> Rows<'r, 't, 'p, 's, 'c, R, W> {
 
     /// Reads the next cells, as many as are NULL by a bit or whole in the packet, aren't in several chunks and have room, puts their
     /// text, and steps over them. Returns how many rows it began.
+    #[inline(always)]
     pub(crate) fn put_run(&mut self, at: &mut Cursor<'c>, nulls: Nulls) -> Result<u64, Stop>
         requires { IsInMarkedRow self.old nulls }
         ensures { RunRead R.remaining W.contents nulls.entry at.old at.new self.old self.new result }
@@ -245,34 +248,62 @@ impl<'r, 't, 'p, 's, 'c, R: Read, W: Write> Rows<'r, 't, 'p, 's, 'c, R, W> {
         Ok(())
     }
 
-    /// Reads a row and those that follow it in its packet, and puts their lines. Returns how many they are.
+    /// Reads a row, after its bitmap if it has one, and puts its line; ROWs, as far as a run goes over their ends. Returns how many.
     #[inline(always)]
-    pub(crate) fn rows(&mut self) -> Result<u64, Stop>
-        requires { IsInSomeRow self.old }
+    pub(crate) fn row_by<M: Marks>(&mut self, marks: &mut M) -> Result<u64, Stop>
+        requires some { IsInSomeRow self.old }
+        requires awaits { AwaitsBitmap (M.space marks.old) }
         ensures leaves { LeavesRows self.old self.new result }
-        ensures ends { IfOk result (λ count. EndsRows PlainRow self.old.payload.now self.new.payload.now count) }
+        ensures room { KeepsRoom (M.space marks.old) (M.space marks.new) }
+        ensures few { IfOk result (λ count. self.old.payload.now.place + count ≤ self.new.payload.now.place + 1) }
         ensures rows { (columns : List Column) → Knows self.old.row_format.now columns →
-            RowsRead R.remaining W.contents PlainRow self.old.row_format.now.charset columns
+            SomeRead R.remaining W.contents M.token self.old.row_format.now.charset columns
             self.old.payload.now self.new.payload.now self.old.sink.now self.new.sink.now result }
     {
+        marks.begin(self.payload, self.row_format.count())?;
+        let nulls = marks.nulls();
         let mut at = self.row_format.start();
-        let mut ended: u64 = 0;
+        let mut begun: u64 = 0;
         loop {
             let place = self.payload.place();
-            ended += self.put_run(&mut at, Nulls::Unmarked)?;
-            if self.payload.place() > place && self.sink.room() <= BLOCK_END {
+            begun += self.put_run(&mut at, nulls)?;
+            // A run of ROWs that came to the block's end goes over it.
+            if M::TOKEN == ROW && self.payload.place() > place && self.sink.room() <= BLOCK_END {
                 continue;
             }
             let Some((format, after)) = self.row_format.next(at) else {
-                if !self.take_token(ROW) {
-                    return Ok(ended + 1);
-                }
-                ended += 1;
-                at = self.row_format.start();
-                continue;
+                return Ok(begun + 1);
             };
-            self.put_cell(at, &format)?;
+            self.put_next(at, &format, nulls.is_null(at.column))?;
             at = after;
+        }
+    }
+
+    /// Reads a row and those that follow it in its packet, each with at most its bitmap in the area, and puts their lines. Returns
+    /// how many they are.
+    #[inline(always)]
+    pub(crate) fn rows<M: Marks>(&mut self, marks: &mut M) -> Result<u64, Stop>
+        requires some { IsInSomeRow self.old }
+        requires room { longest_bitmap ≤ (M.space marks.old).room }
+        ensures leaves { LeavesRows self.old self.new result }
+        ensures room { KeepsRoom (M.space marks.old) (M.space marks.new) }
+        ensures ends { IfOk result (λ count. EndsRows M.token self.old.payload.now self.new.payload.now count) }
+        ensures rows { (columns : List Column) → Knows self.old.row_format.now columns →
+            RowsRead R.remaining W.contents M.token self.old.row_format.now.charset columns
+            self.old.payload.now self.new.payload.now self.old.sink.now self.new.sink.now result }
+    {
+        let mut ended: u64 = 0;
+        loop {
+            marks.empty();
+            let whole = self.put_whole_rows::<M>();
+            ended += whole.rows;
+            if whole.last {
+                return Ok(ended + 1);
+            }
+            ended += self.row_by(marks)?;
+            if !self.take_token(M::TOKEN) {
+                return Ok(ended);
+            }
         }
     }
 }

@@ -18,8 +18,8 @@ returns-clause-rows g c = λ columns knows.
       place_is = omega (arith, ap (λ p. p.place) c.consume.ensures.rest, length-take-le run.span.used bytes c.run_far_rows-run.ensures.used);
     }
 
-pub returns-then-not-knows_all-clause-rows : goal.returns-then-not-knows_all-clause-rows
-returns-then-not-knows_all-clause-rows g c = λ columns knows. record {
+pub returns-then-TOKEN-clause-rows : goal.returns-then-TOKEN-clause-rows
+returns-then-TOKEN-clause-rows g c = λ columns knows. record {
   bytes = [];
   text = [];
   writes = (refl, refl);
