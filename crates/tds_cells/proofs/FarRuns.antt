@@ -1,7 +1,7 @@
 -- Runs over rows that are far from the ends, a cell after the comma that stands before it.
 use Rattle.tds_cells.proofs as N
-use N.{◌≡◌, ◌∙◌, ◌==◌, ℕ, ◌+◌, ◌-◌, ◌≤◌, ◌<◌, List, [], ◌++◌, ◌∷◌, length, take, drop, get_or, sym, ap, arith, CellFormat, RowsRan, RowFormat, after_comma}
-use N.{end_after, place}
+use N.{◌≡◌, ◌∙◌, ◌==◌, ℕ, ◌+◌, ◌-◌, ◌≤◌, ◌<◌, List, [], ◌++◌, ◌∷◌, length, take, drop, get_or, sym, ap, arith, CellFormat, Ran, Unmarked, RowFormat}
+use N.{after_comma, end_after, place}
 use N.RunSteps.{unused, whole_some}
 use N.RowFormatRuns.{place_known, rows_more, runs_column}
 use N.RowFormatSteps.{last_one, next_known, takes}
@@ -72,8 +72,8 @@ pub far_more : {row_format : RowFormat} {from : N.Cursor} {walk : N.Walk} {bytes
     → take made old ≡ take (made - comma_size cells) old ++ after_comma cells [] → take made new ≡ take made old
     → (made + m ≤ length new) × (end ≤ length final) → take end final ≡ take (made + m) new ++ end_after last
     → u ≡ N.whole_size d.kind (drop used bytes) → N.WritesField row_format.charset d.kind (take u (drop used bytes)) (take m (drop made new))
-    → RowsRan row_format from bytes old (record { used = used; made = made - comma_size cells; rows = rows; ahead = place walk cells })
-    → RowsRan row_format from bytes final (record { used = used + u; made = end; rows = rows; ahead = place walk (cells + 1) })
+    → Ran row_format Unmarked from bytes old (record { used = used; made = made - comma_size cells; rows = rows; ahead = place walk cells })
+    → Ran row_format Unmarked from bytes final (record { used = used + u; made = end; rows = rows; ahead = place walk (cells + 1) })
 far_more {row_format = row_format} {walk = walk} {bytes = bytes} {old = old} {row = row} cells used u made m end d new final last all some are last_is format_is
     (begun, (within, few)) comma kept (fits, ends) is whole wrote x =
     let at = made - comma_size cells in
@@ -112,8 +112,9 @@ pub rest_more : {row_format : RowFormat} {from : N.Cursor} {walk : N.Walk} {byte
     → take made old ≡ take (made - comma_size cells) old ++ after_comma cells [] → take made new ≡ take made old
     → (made + m ≤ length new) × (end ≤ length final) → take end final ≡ take (made + m) new ++ end_after last
     → u ≡ N.whole_size d.kind rest → N.WritesField row_format.charset d.kind (take u rest) (take m (drop made new))
-    → RowsRan row_format from bytes old (record { used = length bytes - length rest; made = made - comma_size cells; rows = rows; ahead = place walk cells })
-    → RowsRan row_format from bytes final (record { used = now; made = end; rows = rows; ahead = place walk (cells + 1) })
+    → Ran row_format Unmarked from bytes old
+    (record { used = length bytes - length rest; made = made - comma_size cells; rows = rows; ahead = place walk cells })
+    → Ran row_format Unmarked from bytes final (record { used = now; made = end; rows = rows; ahead = place walk (cells + 1) })
 rest_more {row_format = row_format} {bytes = bytes} rest cells u made m end now d new final last within rest_is now_is all some are last_is format_is
     (begun, (fits, few)) comma kept room is whole wrote x =
     let used = length bytes - length rest in

@@ -1,7 +1,7 @@
 -- Runs of cells over the columns that a row format knows: more cells after those that were written.
 use Rattle.tds_cells.proofs as N
-use N.{arith, false, ◌∷◌, ◌≡◌, ◌∙◌, ap, ℕ, ◌+◌, ◌-◌, ◌<◌, ◌≤◌, List, ◌++◌, length, take, drop, Column, Cursor, RowsRan, RowFormat, suc, Bool, sym, RunsMarked}
-use N.{inl, ◌⊎◌, ◌==◌, ◌≢◌, CellFormat, IsCursor, Knows, inr, true, []}
+use N.{arith, false, ◌∷◌, ◌≡◌, ◌∙◌, ap, ℕ, ◌+◌, ◌-◌, ◌<◌, ◌≤◌, List, ◌++◌, length, take, drop, Column, Cursor, Ran, Unmarked, RowFormat, suc, Bool, sym}
+use N.{RunsMarked, inl, ◌⊎◌, ◌==◌, ◌≢◌, CellFormat, IsCursor, Knows, inr, true, []}
 use N.RunSteps.{made_more, marked_writes, rows_both, rows_none, rows_onward, used_more, unused}
 use N.FormatSteps.{some_first}
 use Rattle.std.proofs.lemmas.List.{get_or-drop}
@@ -13,7 +13,7 @@ RowsBetween row_format columns old new count bytes text = IsCursor row_format co
     → N.WritesRows charset columns cells (drop old.column columns) (drop new.column columns) new.column count bytes text)
 
 pub rows_begin : {row_format : RowFormat} {from : Cursor} {bytes to : List ℕ}
-    → RowsRan row_format from bytes to (record { used = 0; made = 0; rows = 0; ahead = from })
+    → Ran row_format Unmarked from bytes to (record { used = 0; made = 0; rows = 0; ahead = from })
 rows_begin = grind (arith, rows_none)
 
 -- the token byte of a ROW is next
@@ -26,7 +26,7 @@ pub row_begun : {row_format : RowFormat} {from start : Cursor} {bytes to : List 
     → row_format.count ≤ run.ahead.column
     → N.BeginsRow (unused run.used bytes) × (start.column ≡ 0)
     → ((columns : List Column) → Knows row_format columns → IsCursor row_format columns run.ahead → IsCursor row_format columns start)
-    → RowsRan row_format from bytes to run → RowsRan row_format from bytes to
+    → Ran row_format Unmarked from bytes to run → Ran row_format Unmarked from bytes to
     (record { used = run.used + 1; made = run.made; rows = run.rows + 1; ahead = start })
 row_begun {bytes = bytes} {run = run} some at (begins, first) ahead x =
     let (within, byte) = begins_at run.used bytes begins in
@@ -53,8 +53,8 @@ more_in_rows _ _ u _ _ _ _ within some x y = grind (arith, used_more, made_more,
 -- the same of what a run over rows has done
 pub rows_more : {row_format : RowFormat} {from : Cursor} {bytes to : List ℕ} {run : N.RowsRun} {cells : N.CellRun} (text rest : List ℕ) → 0 < cells.used
     → cells.used ≤ length (unused run.used bytes) → cells.made ≤ length text
-    → N.CellsWritten row_format run.ahead (unused run.used bytes) text cells → RowsRan row_format from bytes to run
-    → RowsRan row_format from bytes (take run.made to ++ (text ++ rest))
+    → N.CellsWritten row_format run.ahead (unused run.used bytes) text cells → Ran row_format Unmarked from bytes to run
+    → Ran row_format Unmarked from bytes (take run.made to ++ (text ++ rest))
     (record { used = run.used + cells.used; made = run.made + cells.made; rows = run.rows; ahead = cells.ahead })
 rows_more {from = from} {bytes = bytes} {to = to} {run = run} text rest _ within fits gives x = record {
   used = grind (arith, N.length-take);
@@ -70,13 +70,13 @@ marked_in_rows y = (y.ahead, λ charset cells set is. rw y.further (marked_write
 
 -- what stands after what was made may be another
 pub rows_kept : {row_format : RowFormat} {from : Cursor} {bytes to : List ℕ} {run : N.RowsRun} {new : List ℕ} → length new ≡ length to
-    → take run.made new ≡ take run.made to → RowsRan row_format from bytes to run → RowsRan row_format from bytes new run
+    → take run.made new ≡ take run.made to → Ran row_format Unmarked from bytes to run → Ran row_format Unmarked from bytes new run
 rows_kept same is x = grind arith
 
 -- a run, and then another from where it ended
 pub rows_further : {row_format : RowFormat} {from : Cursor} {bytes to : List ℕ} {run more : N.RowsRun} (text rest : List ℕ)
-    → RowsRan row_format from bytes to run → RowsRan row_format run.ahead (unused run.used bytes) text more
-    → RowsRan row_format from bytes (take run.made to ++ (text ++ rest))
+    → Ran row_format Unmarked from bytes to run → Ran row_format Unmarked run.ahead (unused run.used bytes) text more
+    → Ran row_format Unmarked from bytes (take run.made to ++ (text ++ rest))
     (record { used = run.used + more.used; made = run.made + more.made; rows = run.rows + more.rows; ahead = more.ahead })
 rows_further {bytes = bytes} {to = to} {run = run} {more = more} text rest x y = record {
   used = grind (arith, N.length-take);
@@ -264,8 +264,8 @@ pub row_far : {from : Cursor} {bytes to : List ℕ} {rows used made : ℕ} (row_
     → row_format.known ≡ row_format.count → 0 < row_format.count → row ≡ take row_format.known row_format.formats.now → run.cells ≡ row_format.count
     → take made new ≡ take made to → length new ≡ length to → (used ≤ run.used) × (made ≤ run.made)
     → N.RunsFormats row_format.charset row 0 true (drop used bytes) (length to - made) (drop made new) (N.run_since (record { used = used; made = made }) run)
-    → RowsRan row_format from bytes to (record { used = used; made = made; rows = rows; ahead = record from { column = 0 } })
-    → RowsRan row_format from bytes new (record { used = run.used; made = run.made; rows = rows; ahead = record from { column = row_format.count } })
+    → Ran row_format Unmarked from bytes to (record { used = used; made = made; rows = rows; ahead = record from { column = 0 } })
+    → Ran row_format Unmarked from bytes new (record { used = run.used; made = run.made; rows = rows; ahead = record from { column = row_format.count } })
 row_far {from = from} {bytes = bytes} {to = to} {used = u} {made = m} row_format row run new all some are whole same size begun written x =
     let next = rest_ahead row_format (record from { column = 0 }) row all are some in
     let made = drop m new in
@@ -284,11 +284,11 @@ abbrev pub known_run : N.Walk → N.KnownRun → N.RowsRun
 known_run walk run = record { used = run.used; made = run.made; rows = run.rows; ahead = N.place walk run.column }
 
 pub ran_at : {row_format : RowFormat} {column : ℕ} {bytes text : List ℕ} {run : N.KnownRun} → N.KnownRan row_format column bytes text run
-    → (walk : N.Walk) → RowsRan row_format (N.place walk column) bytes text (known_run walk run)
+    → (walk : N.Walk) → Ran row_format Unmarked (N.place walk column) bytes text (known_run walk run)
 ran_at x walk = record { used = x.used; made = x.made; few = x.few; writes = x.writes walk }
 
 pub known_ran : {row_format : RowFormat} {column : ℕ} {bytes text : List ℕ} {run : N.KnownRun}
-    → ((walk : N.Walk) → RowsRan row_format (N.place walk column) bytes text (known_run walk run)) → N.KnownRan row_format column bytes text run
+    → ((walk : N.Walk) → Ran row_format Unmarked (N.place walk column) bytes text (known_run walk run)) → N.KnownRan row_format column bytes text run
 known_ran {row_format = row_format} x = record {
   used = (x row_format.rest).used;
   made = (x row_format.rest).made;

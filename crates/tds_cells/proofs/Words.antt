@@ -45,24 +45,23 @@ pub use Rattle.tds_cells.specs.Formats.{AreCounted, AreInt4, AreLaidOut, Each}
 pub use Rattle.tds_cells.specs.Layouts.{IsLaidOut}
 pub use Rattle.tds_cells.specs.MarkedRuns.{WritesColumn, EndsFar, EndsLeft, MarkedWritten, AreClear, WritesMarked}
 pub use Rattle.tds_cells.specs.MarkedRuns.{RunsMarked, WritesNext}
-pub use Rattle.tds_cells.specs.MarkedRows.{EndsNbcRows, NbcRowsWritten, WritesNbcRows, WritesWholeRows}
+pub use Rattle.tds_cells.specs.MarkedRows.{EndsNbcRows, WritesNbcRows, WritesWholeRows}
 pub use Rattle.tds_cells.specs.Rows.{marked, WholeRow, bitmap_length, row_add, SpellsMarked, bit, RowToken, Bitmap, PlainRow, with_cell, RowPart, SpellsNbcRow}
 pub use Rattle.tds_cells.specs.Rows.{SpellsRow, row, NbcRow, row_so_far, with_field, row_size, InCell, token_byte, row_start, token_start}
 pub use Rattle.tds_cells.specs.Rows.{next_cell, nbc_row_start}
-pub use Rattle.tds_cells.specs.Runs.{KnownRan, RowsRan, rows_so_far, lines, rows, Writes, CellsWritten, after_cells, RunEnds, RowsPart}
-pub use Rattle.tds_cells.specs.Runs.{EndsLast, WritesRows}
+pub use Rattle.tds_cells.specs.Runs.{KnownRan, rows_so_far, lines, rows, Writes, CellsWritten, after_cells, RunEnds, RowsPart}
+pub use Rattle.tds_cells.specs.Runs.{WritesRows}
 pub use Rattle.tds_cells.specs.ShortCells.{stated_length, short_size}
 pub use Rattle.tds_cells.specs.ChunkedCells.{HasOneChunk, chunk_data, chunk_end, chunked_size, stated_total}
 pub use Rattle.tds_cells.specs.LongFields.{IsShapeLeft}
-pub use Rattle.tds_cells.specs.Rows.{BeginNoRow}
 pub use Rattle.tds_cells.specs.RowFormats.{BeginsRow, TakesColumn, IsCursor, AreAtCursor, kinds, Knows, NextColumn, place}
 pub use Rattle.tds_cells.specs.WholeCells.{WritesCell, WritesWhole}
 pub use Rattle.tds_cells.specs.declared.layout.CellFormat.{CellFormat}
 pub use Rattle.tds_cells.specs.declared.layout.Layout.{Layout}
 pub use Rattle.tds_cells.specs.declared.whole.TheConstants.{CELL_ROOM}
-pub use Rattle.tds_cells.specs.MarkedRuns.{CellRun, Covers, cell_run, none_null, nulls_of}
+pub use Rattle.tds_cells.specs.MarkedRuns.{CellRun, cell_run, none_null}
 pub use Rattle.tds_cells.specs.Runs.{Ran, RowsRun, rows_run}
-pub use Rattle.tds_cells.specs.declared.run.RowsSpan.{RowsSpan}
+pub use Rattle.tds_cells.specs.declared.nulls.Nulls.TheVariants.{Unmarked}
 pub use Rattle.tds_cells.specs.declared.run.KnownRun.{KnownRun}
 pub use Rattle.tds_cells.specs.declared.run.formats.FormatsRun.{FormatsRun}
 pub use Rattle.tds_cells.specs.declared.row_format.Cursor.{Cursor}

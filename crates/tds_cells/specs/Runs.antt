@@ -140,13 +140,6 @@ RowsWritten row_format from bytes text run = (columns : List Column) → Knows r
     WritesRows charset columns cells (drop from.column columns) (drop run.ahead.column columns) run.ahead.column run.rows (take run.used bytes)
     (take run.made text))
 
--- A run over rows used and made no more than there is, began fewer rows than it used bytes, and wrote the text of what it used.
-pub record RowsRan (row_format : RowFormat) (from : Cursor) (bytes text : List ℕ) (run : RowsRun) : Type 0 where
-  pub used : run.used ≤ length bytes
-  pub made : run.made ≤ length text
-  pub few : run.rows ≤ run.used
-  pub writes : RowsWritten row_format from bytes text run
-
 -- A run wrote the text of the cells that it used: of a row with a bitmap, within it, and else over the ends of rows.
 abbrev pub RunWritten : RowFormat → Nulls → Cursor → List ℕ → List ℕ → RowsRun → Type 0
 RunWritten row_format Unmarked from bytes text run = RowsWritten row_format from bytes text run

@@ -3,7 +3,8 @@ ghost use Rattle.std.specs.Prelude.{false, true, ◌≡◌, ◌==◌, ◌+◌, �
 ghost use Rattle.tds_cells.specs.declared.whole.TheConstants.{CELL_ROOM};
 ghost use Rattle.tds_cells.specs.FormatRuns.{NumbersEnd};
 ghost use Rattle.tds_cells.specs.Layouts.{IsLaidOut};
-ghost use Rattle.tds_cells.specs.Runs.{AloneWritten, CellsWritten, EndsLast, KnownEnds, KnownFarEnds, KnownRan, LeavesNext, RowsRan, RunEnds};
+ghost use Rattle.tds_cells.specs.declared.nulls.Nulls.TheVariants.{Unmarked};
+ghost use Rattle.tds_cells.specs.Runs.{AloneWritten, CellsWritten, EndsLast, KnownEnds, KnownFarEnds, KnownRan, LeavesNext, Ran, RunEnds};
 ghost use Rattle.tds_cells.specs.Runs.{StaysWithin, comma_size, rows_run};
 ghost use Rattle.tds_cells.specs.MarkedRuns.{cell_run};
 ghost use Rattle.tds_cells.specs.RowFormats.{AreAtCursor, KnowsAll};
@@ -360,7 +361,7 @@ impl<'a> RowFormat<'a> {
         requires some { 0 < self.now.count }
         ensures ends { RunEnds self.now at.new (drop result.used bytes.now) (length to.old - result.made) }
         ensures last { EndsLast self.now at.new.column (drop result.used bytes.now) }
-        ensures rows { RowsRan self.now at.old bytes.now to.new (rows_run result at.new) }
+        ensures rows { Ran self.now Unmarked at.old bytes.now to.new (rows_run result at.new) }
     {
         let mut run = RowsSpan::none();
         loop {
@@ -392,7 +393,7 @@ impl<'a> RowFormat<'a> {
         requires room { CELL_ROOM ≤ length to.old }
         ensures ends { RunEnds self.now at.new (drop result.used bytes.now) (length to.old - result.made) }
         ensures last { EndsLast self.now at.new.column (drop result.used bytes.now) }
-        ensures rows { RowsRan self.now at.old bytes.now to.new (rows_run result at.new) }
+        ensures rows { Ran self.now Unmarked at.old bytes.now to.new (rows_run result at.new) }
     {
         if !self.knows_all() {
             return self.run_partly_known(at, bytes, to);

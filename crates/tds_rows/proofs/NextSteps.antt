@@ -238,18 +238,19 @@ module _ {token : N.RowToken} {charset : Charset} {all : List Column} where
   }
 
 -- ROWs after ROWs
-module _ {charset : Charset} {all : List Column} {p q : At} {count : ℕ} (x : RowsAt N.PlainRow charset all p q count (N.row_start charset all)) where
-  rows_further : {earlier : List (List Cell)} {part : RowPart} {r : At} → Path (rows N.PlainRow charset all) N.rows_so_far
-      (N.rows_start N.PlainRow charset all) q r (record { before = earlier; at = part }) → RowsAt N.PlainRow charset all p r (count + length earlier) part
-  rows_further {earlier = earlier} y = record {
-    before = x.before ++ earlier;
-    counted = omega (arith, x.counted, N.length-append x.before earlier);
-    path = path_both x.path (rw N.append-nil at (path_map (λ a m. rows_after charset all x.before) y));
-  }
+rows_further : {charset : Charset} {all : List Column} {p q r : At} {count : ℕ} {earlier : List (List Cell)} {part part' : RowPart}
+    → RowsAt N.PlainRow charset all p q count part → Path (rows N.PlainRow charset all) N.rows_so_far (record { before = []; at = part }) q r
+    (record { before = earlier; at = part' }) → RowsAt N.PlainRow charset all p r (count + length earlier) part'
+rows_further {charset = charset} {all = all} {earlier = earlier} x y = record {
+  before = x.before ++ earlier;
+  counted = omega (arith, x.counted, N.length-append x.before earlier);
+  path = path_both x.path (rw N.append-nil at (path_map (λ a m. rows_after charset all x.before) y));
+}
 
+module _ {charset : Charset} {all : List Column} {p q : At} {count : ℕ} (x : RowsAt N.PlainRow charset all p q count (N.row_start charset all)) where
   rows_more : {n : ℕ} {r : At} → over (N.ReadsRows N.PlainRow charset all n) q r → over (N.ReadsRows N.PlainRow charset all (count + n)) p r
   rows_more {n = n} y =
-      let z = rows_whole (rows_further (path_of y.streams y.place_is)) in
+      let z = rows_whole (rows_further x (path_of y.streams y.place_is)) in
       let all_rows : count + length y.earlier + 1 ≡ count + n = omega (arith, y.counted) in
       rw all_rows at z
 
@@ -257,7 +258,7 @@ module _ {charset : Charset} {all : List Column} {p q : At} {count : ℕ} (x : R
       → N.RowsStop N.PlainRow charset all p.seen d p.place p.held j failed stop
   rows_more_stop y =
       let there : At = record { seen = y.middle; place = q.place + length y.streams.bytes; held = y.between } in
-      rows_stop {q = there} (rows_further (path_of {q = there} y.streams refl)) y.stops
+      rows_stop {q = there} (rows_further x (path_of {q = there} y.streams refl)) y.stops
 
 -- ---- ROWs, run after run and cell after cell
 
@@ -274,20 +275,8 @@ module _ {charset : Charset} {all : List Column} {p q : At} {column count : ℕ}
       → Rowing charset all (coming left' column') p r column' (count + count')
   rowing_run x f =
       let y = f x.cells x.counted in
-      let run = path_map (λ a m. rows_after charset all x.rows.before) (path_of y.streams y.place_is) in
-      let there = rw (N.append-nil, x.counted, y.counted) at run in
-      record {
-        cells = y.more;
-        counted = y.counted;
-        rows = record {
-          before = x.rows.before ++ y.before;
-          counted = omega (
-            arith,
-            N.length-append x.rows.before y.before,
-          );
-          path = path_both x.rows.path there;
-        };
-      }
+      let run = rw (x.counted, y.counted) at (path_of y.streams y.place_is) in
+      record { cells = y.more; counted = y.counted; rows = rw y.rows_counted at (rows_further x.rows run) }
 
   module _ {c : Column} {ks : List (Column × Bool)} where
     pub rowing_cell : {r : At} → nulls_ahead (column + 1) ks ≡ [] → Rowing charset all ((c, false) ∷ ks) p q column count
@@ -419,11 +408,11 @@ module _ {R W : Type 0} {remaining : R → Option (List ℕ)} {contents : W → 
       kept = stays_on x.kept (stays_after x.kept.in_row run.leaves);
       reads = λ columns knows.
           let y = look (N.Marked bitmap) x knows in
-          let put = run.cells.1 _ y.0 y.1 in
-          let near = marked_nears _ _ columns (N.bit bitmap.now) _ from.column put.runs.count (here remaining contents old) (here remaining contents new)
-          _ _ put.runs.writes
-          (passes_on remaining contents x.kept.in_row (stays_after x.kept.in_row run.leaves).in_row put.takes put.puts put.place_is) y.2.1 in
-          rw (← x.kept.same.3) (put.runs.ahead, (omega (arith, y.2.0, run.cells.0), rw put.runs.further near));
+          let put = run.cells _ y.0 y.1 in
+          let near = marked_nears _ _ columns (N.bit bitmap.now) _ from.column put.1.runs.count (here remaining contents old) (here remaining contents new)
+          _ _ put.1.runs.writes
+          (passes_on remaining contents x.kept.in_row (stays_after x.kept.in_row run.leaves).in_row put.1.takes put.1.puts put.1.place_is) y.2.1 in
+          rw (← x.kept.same.3) (put.1.runs.ahead, (omega (arith, y.2.0, put.0), rw put.1.runs.further near));
     }
 
     -- a write of their text failed
@@ -497,14 +486,14 @@ stands_first _ N.Unmarked _ _ _ writing kept sink start ahead read = (
   },
 )
 stands_first _ (N.Marked bitmap) _ is known writing kept sink start ahead read = (
-  omega (arith, ap length is, read.whole),
-  omega (arith, read.place_is),
+  omega (arith, ap length is, read.0),
+  omega (arith, read.3),
   record {
     kept = kept;
     reads = rw sink (λ columns knows.
-        let whole = read.whole ∙ ap N.bitmap_length knows.counted in
-        let near = bitmap_nears columns _ (omega (arith, knows.counted, known.2)) whole read.takes read.between (writing.ready.1 writing.writing)
-        writing.ready.2 read.place_is in
+        let whole = read.0 ∙ ap N.bitmap_length knows.counted in
+        let near = bitmap_nears columns _ (omega (arith, knows.counted, known.2)) whole read.1 read.2 (writing.ready.1 writing.writing)
+        writing.ready.2 read.3 in
         (ahead columns knows, (refl, rw (start, is) near)));
   },
 )
@@ -534,7 +523,7 @@ next_further {remaining = remaining} {contents = contents} {middle = middle} {ne
     let y = look (N.Marked bitmap) (stands_run (N.Marked bitmap) x run) known.1 in
     let t = next.takes _ y.0 y.1 in (
       next_place remaining contents middle new (N.bit bitmap.now) y.0 y.1 t _ next.read,
-      inr (omega (arith, t.further, (run.cells.1 _ from.0 from.1).runs.further)),
+      inr (omega (arith, t.further, (run.cells _ from.0 from.1).1.runs.further)),
     )
 
 -- so less is left of the packets that may come, or of the row
@@ -591,6 +580,10 @@ module _ {charset : Charset} {columns : List Column} where
 
 -- ---- rows of either kind, row after row
 
+abbrev SomeFrom : {R W : Type 0} → (R → Option (List ℕ)) → (W → Option (List ℕ)) → N.RowToken → Rows R W → Rows R W → N.Result ℕ Stop → Type 0
+SomeFrom remaining contents token old new result = (columns : List Column) → Knows old.row_format.now columns
+    → SomeHere remaining contents token columns old new result
+
 -- Rows were read and their lines put, this many, and the token byte of one more, whatever columns the row format knows.
 pub record RowsCome {R W : Type 0} (remaining : R → Option (List ℕ)) (contents : W → Option (List ℕ)) (token : N.RowToken) (first rows : Rows R W)
     (count : ℕ) : Type 0 where
@@ -641,8 +634,7 @@ module _ {R W : Type 0} {remaining : R → Option (List ℕ)} {contents : W → 
   module _ {first old new : Rows R W} {count : ℕ} where
     -- a row more was read, or several
     pub come_rows : {columns : List Column} {n : ℕ} (token : N.RowToken) → RowsCome remaining contents token first old count → N.LeavesRows old new (Ok n)
-        → ((columns : List Column) → Knows old.row_format.now columns → SomeHere remaining contents token columns old new (Ok n))
-        → Knows first.row_format.now columns
+        → SomeFrom remaining contents token old new (Ok n) → Knows first.row_format.now columns
         → over (N.ReadsRows token first.row_format.now.charset columns (count + n)) (here remaining contents first) (here remaining contents new)
     come_rows N.PlainRow x _ read knows =
         rows_more (x.reads _ knows) {r = here remaining contents new} (rw x.kept.same.3 at (read _ (rw (← x.kept.same.3) at knows)))
@@ -652,8 +644,7 @@ module _ {R W : Type 0} {remaining : R → Option (List ℕ)} {contents : W → 
 
     -- and the token byte of the next
     pub come_next : {after : Rows R W} {n : ℕ} (token : N.RowToken) → RowsCome remaining contents token first old count → 0 < old.row_format.now.count
-        → N.LeavesRows old new (Ok n)
-        → ((columns : List Column) → Knows old.row_format.now columns → SomeHere remaining contents token columns old new (Ok n))
+        → N.LeavesRows old new (Ok n) → SomeFrom remaining contents token old new (Ok n)
         → StaysInRow new after → after.sink.now ≡ new.sink.now → N.TokenTaken remaining token new.payload.now after.payload.now true
         → RowsCome remaining contents token first after (count + n)
     come_next token x some leaves read stays sink taken =
@@ -668,8 +659,7 @@ module _ {R W : Type 0} {remaining : R → Option (List ℕ)} {contents : W → 
     -- they stopped
     pub come_stops : {columns : List Column} {stop : Stop} (token : N.RowToken) → RowsCome remaining contents token first old count
         → N.LeavesRows {U = ℕ} old new (Err stop)
-        → ((columns : List Column) → Knows old.row_format.now columns → SomeHere remaining contents token columns old new (Err stop))
-        → Knows first.row_format.now columns
+        → SomeFrom remaining contents token old new (Err stop) → Knows first.row_format.now columns
         → N.RowsStop token first.row_format.now.charset columns (seen remaining first.payload.now) (seen remaining new.payload.now) first.payload.now.place
         (held contents first.sink.now) (held contents new.sink.now) new.sink.now.failed stop
     come_stops N.PlainRow x _ read knows = rows_more_stop (x.reads _ knows) (rw x.kept.same.3 at (read _ (rw (← x.kept.same.3) at knows)))

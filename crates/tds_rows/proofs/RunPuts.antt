@@ -66,27 +66,6 @@ runs_rows x takes puts at = record {
   place_is = at;
 }
 
--- the cells of a run within a row were passed over, and its text was put
-pub run_put : {R W U : Type 0} {contents : W → N.Option (List ℕ)} {row_format : RowFormat} {nulls : ℕ → Bool}
-    {from to : Cursor} {before after : N.Sink W} {bytes text : List ℕ} {r : N.Result U Stop} (remaining : R → N.Option (List ℕ)) (old new : Payload R)
-    → ((columns : List Column) → N.Knows row_format columns → IsCursor row_format columns from → N.RunsMarked row_format columns nulls from to bytes text)
-    → N.Takes (N.seen remaining old) (N.seen remaining new) bytes 0 → N.IsBetween (N.seen remaining new) → new.place ≡ old.place + length bytes
-    → N.IsWriting before → N.PutsPiece contents before after text r
-    → N.MatchResult r (λ _. N.PutsMarkedCells remaining contents row_format nulls from to old new before after)
-    (λ stop. N.WritesPrefixOfCells remaining contents row_format nulls from old new before after stop)
-run_put {r = N.Ok u} _ _ _ writes takes _ at _ puts = λ columns knows ahead.
-    record { bytes = _; text = _; runs = writes columns knows ahead; takes = takes; puts = puts.gives; place_is = at }
-run_put {to = to} {r = N.Err stop} _ _ _ writes takes between _ going puts = λ columns knows ahead. record {
-  to = to;
-  bytes = _;
-  text = _;
-  runs = writes columns knows ahead;
-  takes = takes;
-  between = between;
-  breaks = puts.gives going.writing;
-  failed_is = puts.failed;
-}
-
 -- what a run used was passed over, and what it made put
 pub run_puts : {R W : Type 0} {row_format : RowFormat} {from : Cursor} {bytes text : List ℕ} {run : RowsRun} (remaining : R → N.Option (List ℕ))
     (contents : W → N.Option (List ℕ)) (old new : Payload R) (before after : N.Sink W) (nulls : N.Nulls) → N.Ran row_format nulls from bytes text run
@@ -99,23 +78,40 @@ run_puts {bytes = bytes} {run = run} remaining contents old new before after N.U
       λ charset cells set is. runs_rows {p = at_of remaining contents old before} {q = at_of remaining contents new after} (ran.1 charset cells set is)
           (N.Takes-more (N.seen remaining old) (N.seen remaining new) (N.take run.used bytes) 0 _ (omega arith) takes) puts at,
     )
-run_puts _ _ _ _ _ _ (N.Marked bitmap) x takes puts at = (
+run_puts _ _ _ _ _ _ (N.Marked bitmap) x takes puts at = λ columns knows ahead. (
   x.writes.0,
-  λ columns knows ahead. record { bytes = _; text = _; runs = x.writes.1 columns knows ahead; takes = takes; puts = puts; place_is = at },
+  record { bytes = _; text = _; runs = x.writes.1 columns knows ahead; takes = takes; puts = puts; place_is = at },
 )
 
--- the cells of a run within a row were read and put
-pub run_within : {R W : Type 0} {row_format : RowFormat} {from to : Cursor} (remaining : R → N.Option (List ℕ)) (contents : W → N.Option (List ℕ))
-    (old new : Payload R) (before after : N.Sink W) (nulls : N.Nulls)
-    → N.PutsMarkedCells remaining contents row_format (N.nulls_of nulls) from to old new before after
-    → N.RunPut remaining contents row_format nulls from to 0 old new before after
-run_within remaining contents old new before after N.Unmarked x = λ columns knows ahead.
-    let y = x columns knows ahead in
-    let p = at_of remaining contents old before in
-    let q = at_of remaining contents new after in
-    let ran = marked_in_rows y.runs in
-    (ran.0, λ charset cells set is. runs_rows {p = p} {q = q} (ran.1 charset cells set is) (grind arith) y.puts y.place_is)
-run_within _ _ _ _ _ _ (N.Marked bitmap) x = (N.refl, x)
+-- the cells of a run within a row were passed over, and its text was put
+pub run_put : {R W U : Type 0} {contents : W → N.Option (List ℕ)} {row_format : RowFormat} {from to : Cursor} {before after : N.Sink W}
+    {bytes text : List ℕ} {r : N.Result U Stop} (nulls : N.Nulls) (remaining : R → N.Option (List ℕ)) (old new : Payload R)
+    → ((columns : List Column) → N.Knows row_format columns → IsCursor row_format columns from
+    → N.RunsMarked row_format columns (N.nulls_of nulls) from to bytes text)
+    → N.Takes (N.seen remaining old) (N.seen remaining new) bytes 0 → N.IsBetween (N.seen remaining new) → new.place ≡ old.place + length bytes
+    → N.IsWriting before → N.PutsPiece contents before after text r
+    → N.MatchResult r (λ _. N.RunPut remaining contents row_format nulls from to 0 old new before after)
+    (λ stop. (columns : List Column) → N.Knows row_format columns → IsCursor row_format columns from
+    → N.WritesPrefixMarked row_format columns (N.nulls_of nulls) from (N.seen remaining old) (N.seen remaining new) (held contents before)
+    (held contents after) after.failed stop)
+run_put {contents = contents} {before = before} {after = after} {r = N.Ok u} N.Unmarked remaining old new writes takes _ at _ puts = λ columns knows ahead.
+    let ran = marked_in_rows (writes columns knows ahead) in (
+      ran.0,
+      λ charset cells set is. runs_rows {p = at_of remaining contents old before} {q = at_of remaining contents new after} (ran.1 charset cells set is)
+          (grind arith) puts.gives at,
+    )
+run_put {r = N.Ok u} (N.Marked bitmap) _ _ _ writes takes _ at _ puts = λ columns knows ahead.
+    (N.refl, record { bytes = _; text = _; runs = writes columns knows ahead; takes = takes; puts = puts.gives; place_is = at })
+run_put {to = to} {r = N.Err stop} _ _ _ _ writes takes between _ going puts = λ columns knows ahead. record {
+  to = to;
+  bytes = _;
+  text = _;
+  runs = writes columns knows ahead;
+  takes = takes;
+  between = between;
+  breaks = puts.gives going.writing;
+  failed_is = puts.failed;
+}
 
 -- a write of their text failed, in the row that the run began in
 pub run_breaks : {row_format : RowFormat} {columns : List Column} {from : Cursor} {a b : N.PayloadView} {h j : N.SinkView} {place : ℕ} {failed : Bool}

@@ -1,7 +1,7 @@
 -- The words that the proofs of this crate share.
 pub use Rattle.std.proofs.Common.{refl, ◌+◌, subst, take, ◌⊎◌, arith, suc, zero, length, Result, length-append, inr, Bool, ◌++◌, false, MatchResult}
 pub use Rattle.std.proofs.Common.{ap, add-zero, ◌∙◌, Ok, ◌≡◌, append_assoc, drop, ℕ, ◌≤◌, [], sym, ◌∷◌, ◌%◌, ◌-◌, inl, Err, append-nil, ◌*◌, ◌≢◌, get_or}
-pub use Rattle.std.proofs.Common.{Bor, ◌^◌, List, ◌<◌, true, rules}
+pub use Rattle.std.proofs.Common.{◌^◌, List, ◌<◌, true, rules}
 pub use Rattle.std.proofs.Math.Seq.{drop-nil, take-append_seam}
 pub use Rattle.std.proofs.lemmas.Bool.{cases_lt}
 pub use Rattle.std.proofs.lemmas.Grind.{common_steps}
@@ -72,7 +72,6 @@ pub use Rattle.tds_rows.specs.LongCells.{RefusesNumber, EndsData, added_text, St
 pub use Rattle.tds_rows.specs.LongCells.{StopsData, ReadsNumber, short_length, CutsNumber, total_fault, ending, WritesPrefixOfData, short_fault, join_stop}
 pub use Rattle.tds_rows.specs.LongCells.{opening}
 pub use Rattle.tds_rows.specs.LongCells.{FillsData, CutsData, TakesData}
-pub use Rattle.tds_rows.specs.MarkedPuts.{WritesPrefixMarked, WritesPrefixOfCells, PutsMarked, PutsMarkedCells}
 pub use Rattle.tds_cells.specs.MarkedRuns.{WritesColumn, WritesMarked}
 pub use Rattle.tds_cells.specs.MarkedRuns.{WritesNext}
 pub use Rattle.tds_rows.specs.PassedCells.{CellPassed, StepsOver, StopsPassing, IsGoodValue, CutsPassing, return_cell, PassesData, PassesCell, AnyData}
@@ -84,7 +83,7 @@ pub use Rattle.tds_cells.specs.Rows.{marked, WholeRow, bitmap_length, bit, RowTo
 pub use Rattle.tds_cells.specs.Rows.{row, SpellsRowAs, NbcRow, row_so_far, InCell, token_byte, row_start, token_start}
 pub use Rattle.tds_cells.specs.Rows.{next_cell, nbc_row_start}
 pub use Rattle.tds_cells.specs.Runs.{rows_so_far, rows, Writes, rows_start, after_cells, RowsPart}
-pub use Rattle.tds_rows.specs.RunPuts.{RunsRows}
+pub use Rattle.tds_rows.specs.RunPuts.{RunsRows, WritesPrefixMarked}
 pub use Rattle.tds_cells.specs.Runs.{WritesRows}
 pub use Rattle.tds_rows.specs.Successes.{SpellsRows, ReadsOn, SucceedsOn, Brings}
 pub use Rattle.tds_cells.specs.Rows.{BeginNoRow}

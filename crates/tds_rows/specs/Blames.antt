@@ -11,13 +11,9 @@ pub record Failures : Type 0 where
   pub reads : ℕ
   pub writes : ℕ
 
--- a reader's count, and that of a sink's writer
-abbrev pub failures_with : {W : Type 0} → ℕ → Sink W → Failures
-failures_with reads sink = record { reads = reads; writes = sink.to.now.failures }
-
 -- those of a payload's reader and a sink's writer
 abbrev pub failures_of : {R W : Type 0} → Payload R → Sink W → Failures
-failures_of payload sink = failures_with payload.from.now.failures sink
+failures_of payload sink = record { reads = payload.from.now.failures; writes = sink.to.now.failures }
 
 -- A stop that names a device's fault comes after one more failure of that device.
 abbrev pub StopBlames : Failures → Failures → Stop → Type 0

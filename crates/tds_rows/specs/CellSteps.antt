@@ -15,8 +15,7 @@ use Rattle.tds_packet.specs.PayloadView.{PayloadView, Takes, IsBetween}
 use Rattle.tds_csv.specs.declared.sink.Sink.{Sink}
 use Rattle.tds_csv.specs.Sinks.{SinkView, held}
 use Rattle.tds_csv.specs.Streaming.{StopsStreaming, Streams}
-use Rattle.tds_values.specs.declared.charset.Charset.{Charset}
-use Rattle.tds_cells.specs.Cells.{Cell, CellPart, WholeCell, cell, cell_start, field_so_far, shape}
+use Rattle.tds_cells.specs.Cells.{Cell, CellPart, WholeCell, cell, field_so_far}
 use Rattle.tds_cells.specs.CellTexts.{cell_so_far}
 
 -- Reading a cell stopped before it had any text.
@@ -78,8 +77,3 @@ FieldPut remaining contents from column last old new before after result = Match
     (λ _. PutsField from column last (seen remaining old) (seen remaining new) old.place new.place (held contents before) (held contents after))
     (λ stop. StopsField from column last (seen remaining old) (seen remaining new) old.place (held contents before) (held contents after) after.failed
     stop)
-
--- A cell of a kind was read and its text put, or the call stopped.
-abbrev pub CellPut : {R W U : Type 0} → (R → Option (List ℕ)) → (W → Option (List ℕ)) → Charset → Kind → ℕ → Bool → payloads.Payload R
-    → payloads.Payload R → Sink W → Sink W → Result U Stop → Type 0
-CellPut remaining contents charset kind = FieldPut remaining contents (cell_start kind (shape charset kind))

@@ -1,5 +1,5 @@
 -- The reading of long values as the contracts of its steps see it.
-use Rattle.std.specs.Prelude.{◌≡◌, ◌+◌, ◌<◌, ◌≤◌, ℕ, List, [], Option, Result}
+use Rattle.std.specs.Prelude.{◌≡◌, ◌<◌, ℕ, List, [], Option, Result}
 use Rattle.tds_packet.specs.declared.fault.Fault.{Fault}
 use Rattle.tds_packet.specs.declared.fault.Stop.{Stop}
 use Rattle.tds_packet.specs.declared.payload.Payload.{Payload}
@@ -71,12 +71,6 @@ abbrev pub ValuePut : {J R W U : Type 0} → (R → Option (List ℕ)) → (W �
     → Result U Stop → Type 0
 ValuePut remaining contents start old new result =
     FieldPut remaining contents start old.column old.last old.payload.now new.payload.now old.sink.now new.sink.now result
-
--- The payload is this many bytes further on, at least one and at most `most`.
-pub record IsFurther {R : Type 0} (most : ℕ) (old new : Payload R) (n : ℕ) : Type 0 where
-  pub some : 0 < n
-  pub within : n ≤ most
-  pub place : new.place ≡ old.place + n
 
 -- A length can be read, of data in units of so many bytes.
 pub record IsAtLength {R : Type 0} (p : Payload R) (unit : ℕ) : Type 0 where

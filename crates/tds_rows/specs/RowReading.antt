@@ -4,7 +4,7 @@ use Rattle.tds_values.specs.declared.kind.Kind.{Kind}
 use Rattle.tds_packet.specs.declared.fault.Stop.{Stop}
 use Rattle.tds_packet.specs.declared.payload.Payload.{Payload}
 use Rattle.tds_packet.specs.Payloads.{IsGoing, IsOnSame, IsSound, LeavesPayload, buffered, seen}
-use Rattle.tds_packet.specs.PayloadView.{IsBetween, PayloadView, Takes}
+use Rattle.tds_packet.specs.PayloadView.{IsBetween, Takes}
 use Rattle.tds_columns.specs.Description.{Column}
 use Rattle.tds_text.specs.Quoting.{in_line, null_field}
 use Rattle.tds_csv.specs.declared.sink.Sink.{Sink}
@@ -13,16 +13,15 @@ use Rattle.tds_rows.specs.declared.rows.Rows.{Rows}
 use Rattle.tds_cells.specs.declared.row_format.Cursor.{Cursor}
 use Rattle.tds_cells.specs.declared.layout.CellFormat.{CellFormat}
 use Rattle.tds_cells.specs.Layouts.{IsLaidOut}
-use Rattle.tds_cells.specs.Cells.{CellPart}
+use Rattle.tds_cells.specs.Cells.{cell_start, shape}
 use Rattle.tds_meter.specs.Space.{Space}
-use Rattle.tds_rows.specs.CellSteps.{CellPut, FieldPut, LeavesSmall, longest_cell}
-use Rattle.tds_cells.specs.Rows.{NbcRow, PlainRow, RowPart, RowToken, bitmap_length, longest_bitmap, token_byte}
+use Rattle.tds_rows.specs.CellSteps.{FieldPut, LeavesSmall, longest_cell}
+use Rattle.tds_cells.specs.Rows.{NbcRow, PlainRow, RowToken, bitmap_length, longest_bitmap, token_byte}
 use Rattle.tds_cells.specs.MarkedRows.{WritesWholeRows}
 use Rattle.tds_cells.specs.MarkedRuns.{Covers}
 use Rattle.tds_cells.specs.declared.nulls.Nulls.{Nulls}
 use Rattle.tds_cells.specs.declared.nulls.Nulls.TheVariants.{Marked, Unmarked}
 use Rattle.tds_rows.specs.LongCells.{CutsNumber}
-use Rattle.tds_rows.specs.RowSteps.{RowPut}
 use Rattle.tds_cells.specs.Rows.{BeginNoRow}
 use Rattle.tds_cells.specs.RowFormats.{IsNextKind, KnowsSome}
 
@@ -97,17 +96,12 @@ pub record StaysInRow {R W : Type 0} (old new : Rows R W) : Type 0 where
   pub sink : IsOnSameSink old.sink.now new.sink.now
   pub small : LeavesSmall old.small.now new.small.now
 
--- The cell after this many columns, the row's last or not, was read from this state on and its text put, or the call stopped.
-abbrev pub ContentRead : {R W U : Type 0} → (R → Option (List ℕ)) → (W → Option (List ℕ)) → CellPart → ℕ → Bool → Rows R W → Rows R W → Result U Stop
-    → Type 0
-ContentRead remaining contents start column last old new result =
-    FieldPut remaining contents start column last old.payload.now new.payload.now old.sink.now new.sink.now result
-
 -- The cell of this kind after this many columns, the row's last or not, was read and its text put, or the call stopped.
 abbrev pub KindRead : {R W U : Type 0} → (R → Option (List ℕ)) → (W → Option (List ℕ)) → ℕ → Bool → Kind → Rows R W → Rows R W → Result U Stop
     → Type 0
 KindRead remaining contents column last kind old new result =
-    CellPut remaining contents old.row_format.now.charset kind column last old.payload.now new.payload.now old.sink.now new.sink.now result
+    FieldPut remaining contents (cell_start kind (shape old.row_format.now.charset kind)) column last old.payload.now new.payload.now
+    old.sink.now new.sink.now result
 
 -- The next cell, of this kind, was read and its text put, or the call stopped.
 pub record CellRead {R W U : Type 0} (remaining : R → Option (List ℕ)) (contents : W → Option (List ℕ)) (at : Cursor) (kind : Kind) (old new : Rows R W)
@@ -123,23 +117,11 @@ NextRead remaining contents at kind true old new result =
     (in_line at.column (at.column + 1 == old.row_format.now.count) null_field) result
 NextRead remaining contents at kind false old new result = CellRead remaining contents at kind old new result
 
--- The bitmap of a row of so many columns was read, these bytes.
-pub record ReadsBitmap (columns : ℕ) (bytes : List ℕ) (old new : PayloadView) (place place' : ℕ) : Type 0 where
-  pub whole : length bytes ≡ bitmap_length columns
-  pub takes : Takes old new bytes (length bytes)
-  pub between : IsBetween new
-  pub place_is : place' ≡ place + length bytes
-
 -- A bitmap can be read into the area: it is empty, and has room for the longest.
 pub record AwaitsBitmap (bitmap : Space) : Type 0 where
   pub empty : bitmap.bytes ≡ []
   pub room : longest_bitmap ≤ bitmap.room
   pub peak : bitmap.peak ≤ bitmap.room
-
--- A row was read from this state on and its line put, or the call stopped.
-abbrev pub RowRead : {R W U : Type 0} → (R → Option (List ℕ)) → (W → Option (List ℕ)) → RowPart → Rows R W → Rows R W → Result U Stop → Type 0
-RowRead remaining contents start old new result =
-    RowPut remaining contents old.row_format.now.charset start old.payload.now new.payload.now old.sink.now new.sink.now result
 
 -- The bits of a row are these: those of a bitmap of these bytes, or none of a ROW.
 abbrev pub MarkedBy : RowToken → List ℕ → Nulls → Type 0
@@ -151,7 +133,8 @@ MarkedBy token bytes nulls = ⊥
 abbrev pub BitmapRead : {R U : Type 0} → (R → Option (List ℕ)) → RowToken → Payload R → Payload R → List ℕ → ℕ → Result U Stop → Type 0
 BitmapRead remaining PlainRow old new bytes columns result = (new ≡ old) × (is_ok result ≡ true)
 BitmapRead remaining NbcRow old new bytes columns result = MatchResult result
-    (λ _. ReadsBitmap columns bytes (seen remaining old) (seen remaining new) old.place new.place)
+    (λ _. (length bytes ≡ bitmap_length columns) × Takes (seen remaining old) (seen remaining new) bytes (length bytes)
+    × IsBetween (seen remaining new) × (new.place ≡ old.place + length bytes))
     (λ stop. CutsNumber (bitmap_length columns) (seen remaining old) (seen remaining new) old.place stop)
 
 -- This many NBCROWs were read from this state on, without a packet, each before the token byte of the next, which was read too, and one more if that is

@@ -106,7 +106,7 @@ impl Marks for Area {
     ghost named = { refl };
 }
 
-// How many NBCROWs were put whose next one's token byte was taken, and whether one more was, which no other follows.
+/// How many NBCROWs were put whose next one's token byte was taken, and whether one more was, which no other follows.
 #[derive(Clone, Copy)]
 pub(crate) struct PutRows {
     pub(crate) rows: u64,
@@ -114,8 +114,8 @@ pub(crate) struct PutRows {
 }
 
 impl<'r, 't, 'p, 's, 'c, R: Read, W: Write> Rows<'r, 't, 'p, 's, 'c, R, W> {
-    // Puts the lines of the next NBCROWs, as many as are whole in the packet, away from its end, and have room in the block,
-    // and takes the token byte after each but the last. It reads nothing and delivers nothing. Of ROWs it takes none.
+    /// Puts the lines of the next NBCROWs, as many as are whole in the packet, away from its end, and have room in the block,
+    /// and takes the token byte after each but the last. It reads nothing and delivers nothing. Of ROWs it takes none.
     #[inline(always)]
     pub(crate) fn put_whole_rows<M: Marks>(&mut self) -> PutRows
         requires { IsInSomeRow self.old }
@@ -145,7 +145,7 @@ impl<'r, 't, 'p, 's, 'c, R: Read, W: Write> Rows<'r, 't, 'p, 's, 'c, R, W> {
         }
     }
 
-    // Puts the next cell: NULL, or the cell that it reads.
+    /// Puts the next cell: NULL, or the cell that it reads.
     pub(crate) fn put_next(
         &mut self,
         at: Cursor<'c>,

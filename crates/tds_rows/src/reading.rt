@@ -127,7 +127,7 @@ fn rows_by<const N: usize, M: Marks, R: Read, W: Write>(
     )
 }
 
-// Reads rows so, by a row format whose room is that of so many columns.
+// Reads rows so, by a row format with as much room as these columns need.
 #[inline(always)]
 fn read_marked<M: Marks, R: Read, W: Write>(
     payload: &mut Payload<R>,

@@ -3,16 +3,16 @@ ghost use Rattle.std.specs.Prelude.{◌≡◌, ◌+◌, ◌<◌, ◌≤◌, ℕ,
 ghost use Rattle.tds_text.specs.Fields.{conversion_of};
 ghost use Rattle.tds_cells.specs.Cells.{LongShape, long_start};
 ghost use Rattle.tds_cells.specs.Layouts.{shape_of_layout};
-ghost use Rattle.tds_rows.specs.RowReading.{AwaitsBitmap, CellRead, ContentRead, EndsRows, IsAtCell, IsInMarkedRow, IsInRow, IsInSomeRow, LeavesRows, RowRead, StaysInRow, TokenTaken};
+ghost use Rattle.tds_rows.specs.RowReading.{AwaitsBitmap, CellRead, EndsRows, IsAtCell, IsInMarkedRow, IsInRow, IsInSomeRow, LeavesRows, StaysInRow, TokenTaken};
 ghost use Rattle.tds_cells.specs.Rows.{RowToken, longest_bitmap, row_start, token_byte};
 ghost use Rattle.tds_columns.specs.Description.{Column};
 ghost use Rattle.tds_packet.specs.Payloads.{buffered};
 ghost use Rattle.tds_packet.specs.Reads.{KeepsRoom};
-ghost use Rattle.tds_rows.specs.RowSteps.{RowsRead, SomeRead};
-ghost use Rattle.tds_rows.specs.RunPuts.{RunPut};
+ghost use Rattle.tds_rows.specs.RowSteps.{RowPut, RowsRead, SomeRead};
+ghost use Rattle.tds_rows.specs.RunPuts.{RunPut, room_left};
 ghost use Rattle.tds_cells.specs.CellTexts.{IsLeft};
 ghost use Rattle.tds_cells.specs.Runs.{EndsRun};
-ghost use Rattle.tds_rows.specs.MarkedPuts.{room_left};
+ghost use Rattle.tds_rows.specs.CellSteps.{FieldPut};
 ghost use Rattle.tds_rows.specs.RowRuns.{RunRead};
 ghost use Rattle.tds_cells.specs.RowFormats.{Knows};
 ghost use Rattle.tds_values.specs.Kind as kinds;
@@ -90,8 +90,8 @@ impl<'r, 't, 'p, 's, 'c, R: Read, W: Write> Rows<'r, 't, 'p, 's, 'c, R, W> {
     ) -> Result<(), Stop>
         requires { IsInRow self.old }
         ensures leaves { LeavesRows self.old self.new result }
-        ensures field { ContentRead R.remaining W.contents (long_start (conversion_of content) reach) column last
-            self.old self.new result }
+        ensures field { FieldPut R.remaining W.contents (long_start (conversion_of content) reach) column last
+            self.old.payload.now self.new.payload.now self.old.sink.now self.new.sink.now result }
     {
         joiners_suit();
         let (payload, sink) = (&mut *self.payload, &mut *self.sink);
@@ -237,8 +237,9 @@ impl<'r, 't, 'p, 's, 'c, R: Read, W: Write> Rows<'r, 't, 'p, 's, 'c, R, W> {
         requires { IsInRow self.old }
         ensures leaves { LeavesRows self.old self.new result }
         ensures row { (columns : List Column) → Knows self.old.row_format.now columns →
-            RowRead R.remaining W.contents (row_start self.old.row_format.now.charset columns)
-            self.old self.new result }
+            RowPut R.remaining W.contents self.old.row_format.now.charset
+            (row_start self.old.row_format.now.charset columns)
+            self.old.payload.now self.new.payload.now self.old.sink.now self.new.sink.now result }
     {
         let mut at = self.row_format.start();
         while let Some((format, after)) = self.row_format.next(at) {
@@ -248,7 +249,8 @@ impl<'r, 't, 'p, 's, 'c, R: Read, W: Write> Rows<'r, 't, 'p, 's, 'c, R, W> {
         Ok(())
     }
 
-    /// Reads a row, after its bitmap if it has one, and puts its line; ROWs, as far as a run goes over their ends. Returns how many.
+    /// Reads a row, its bitmap first if it has one, and puts its line; and after a ROW those that a run goes on to. Returns how
+    /// many rows it read.
     #[inline(always)]
     pub(crate) fn row_by<M: Marks>(&mut self, marks: &mut M) -> Result<u64, Stop>
         requires some { IsInSomeRow self.old }

@@ -1,11 +1,11 @@
 // A long value that passes through in pieces, by a joiner (MS-TDS, Data Stream Types).
-ghost use Rattle.std.specs.Prelude.{◌≡◌, ◌<◌, ◌+◌, ◌^◌, ◌++◌, ℕ, List, IfOk, [], false, None};
+ghost use Rattle.std.specs.Prelude.{◌≡◌, ◌<◌, ◌≤◌, ◌+◌, ◌^◌, ◌++◌, ℕ, List, IfOk, [], false, None};
 ghost use Rattle.tds_text.specs.Conversion.{BeginsData, Conversion, Suits, closing, conversion_rest};
 ghost use Rattle.tds_text.specs.Quoting.{after_comma, end_after};
 ghost use Rattle.tds_csv.specs.Sinks.{IsWriting, LeavesSink, PutsPiece};
 ghost use Rattle.tds_rows.specs.Blames.{Blames, failures_of};
 ghost use Rattle.tds_rows.specs.LongCells.{DataTaken, EndPut, PieceTaken, good_of, join_stop, opening};
-ghost use Rattle.tds_rows.specs.LongReading.{AwaitsData, AwaitsValue, BlamesDevices, IsFurther, IsJoining, IsOnSameValue, IsReadyForValue, LeavesBoth, LeavesJoining, LeavesValue, ValuePut};
+ghost use Rattle.tds_rows.specs.LongReading.{AwaitsData, AwaitsValue, BlamesDevices, IsJoining, IsOnSameValue, IsReadyForValue, LeavesBoth, LeavesJoining, LeavesValue, ValuePut};
 ghost use Rattle.tds_cells.specs.Cells.{Cell, ChunkLength, LongShape, ShortLength, SpellsCell, long_start};
 ghost use Rattle.tds_rows.specs.CellSteps.{FieldPut};
 ghost use Rattle.tds_rows.specs.RowSteps.{StopsAgain};
@@ -82,7 +82,8 @@ impl<'r, 'p, 'j, 'w, 's, J: Joiner, R: Read, W: Write> LongValue<'r, 'p, 'j, 'w,
         requires joining { IsJoining J.begins J.withheld self.old }
         requires some { 0 < most }
         ensures leaves { LeavesJoining J.begins J.withheld self.old self.new result }
-        ensures further { IfOk result (λ n. IsFurther most self.old.payload.now self.new.payload.now n) }
+        ensures further { IfOk result (λ n. (0 < n) × (n ≤ most) ×
+            (self.new.payload.now.place ≡ self.old.payload.now.place + n)) }
         ensures blames { BlamesDevices self.old self.new result }
         ensures piece { (c : Conversion) (content : List ℕ) → Suits J.fit J.begins J.rest J.text J.UNIT J.QUOTED c →
             J.withheld self.old.joiner.now ≡ conversion_rest c content → BeginsData c content →

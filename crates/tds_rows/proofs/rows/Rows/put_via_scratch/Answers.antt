@@ -1,6 +1,6 @@
 use Rattle.tds_rows.proofs.rows.Rows.put_via_scratch.Goals as goal
 use Rattle.tds_rows.proofs.Words.{◌≡◌, ◌+◌, ap, arith, buffered, length, length-take-le, passed, take}
-use Rattle.tds_rows.proofs.RunPuts.{run_put, run_within}
+use Rattle.tds_rows.proofs.RunPuts.{run_put}
 
 pub returns-in_err-put : goal.returns-in_err-put
 returns-in_err-put g c =
@@ -11,7 +11,7 @@ returns-in_err-put g c =
     record {
       leaves = search arith;
       few = search arith;
-      cells = passed _ _ _ _ c.from_residual.ensures.1 (run_put g.R.Read.remaining c.args.self.now.payload.now c.consume.new.self
+      cells = passed _ _ _ _ c.from_residual.ensures.1 (run_put c.args.nulls g.R.Read.remaining c.args.self.now.payload.now c.consume.new.self
           (rw c.buffered-bytes.ensures at run.ensures.cells) c.consume.ensures.gives (c.consume.ensures.between c.requires.in_row.payload.going) at
           c.requires.in_row.sink c.in_err-put.ensures);
     }
@@ -25,7 +25,6 @@ returns g c =
     record {
       leaves = search arith;
       few = omega arith;
-      cells = run_within g.R.Read.remaining g.W.Write.contents c.args.self.now.payload.now c.consume.new.self c.args.self.now.sink.now c.put.new.self
-          c.args.nulls (run_put g.R.Read.remaining c.args.self.now.payload.now c.consume.new.self (rw c.buffered-bytes.ensures at run.ensures.cells)
-          c.consume.ensures.gives (c.consume.ensures.between c.requires.in_row.payload.going) at c.requires.in_row.sink c.in_ok-put.ensures);
+      cells = run_put c.args.nulls g.R.Read.remaining c.args.self.now.payload.now c.consume.new.self (rw c.buffered-bytes.ensures at run.ensures.cells)
+          c.consume.ensures.gives (c.consume.ensures.between c.requires.in_row.payload.going) at c.requires.in_row.sink c.in_ok-put.ensures;
     }

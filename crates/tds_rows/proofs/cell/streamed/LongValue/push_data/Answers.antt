@@ -42,5 +42,5 @@ loop-left-preserved g c =
       filled = λ conversion content suits is begun.
           let p = l.invariant.filled conversion content suits is begun in
           let x = done.piece conversion _ suits p.kept_is p.fills.begun in
-          filled_more begun p done.further.within (done.leaves.sink.ready.1 done.leaves.sink.writing) done.leaves.sink.ready.2 x;
+          filled_more begun p done.further.1 (done.leaves.sink.ready.1 done.leaves.sink.writing) done.leaves.sink.ready.2 x;
     }
