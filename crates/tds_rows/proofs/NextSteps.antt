@@ -529,10 +529,7 @@ next_further {remaining = remaining} {contents = contents} {middle = middle} {ne
 -- so less is left of the packets that may come, or of the row
 pub row_shrinks : (most most' p q r count count' from after : ℕ) → count' ≡ count → most' ≡ most → r ≤ most' → after ≤ count' → count ≤ 65535 → p ≤ q
     → (q ≤ r) × ((q < r) ⊎ (from < after)) → (most' - r) * 65536 + (count' - after) < (most - p) * 65536 + (count - from)
-row_shrinks most most' p q r count count' from after same even within most_columns few step (on, inl x) =
-    omega (arith, same, even, within, most_columns, few, step, on, x)
-row_shrinks most most' p q r count count' from after same even within most_columns few step (on, inr x) =
-    omega (arith, same, even, within, most_columns, few, step, on, x)
+row_shrinks most most' p q r count count' from after same even within most_columns few step (on, x) = grind arith
 
 -- ---- NBCROWs that are whole in the packet
 

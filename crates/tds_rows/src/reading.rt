@@ -104,6 +104,7 @@ fn rows_in<'a, M: Marks, R: Read, W: Write>(
 // Reads rows so, by a row format that knows the first `N` columns at most. Its room is a local variable, and a call takes time for
 // each byte of that, so each room has a function of its own.
 #[inline(never)]
+#[tactic(auto, using(tds_cells::proofs::LaidOut::each_all))]
 fn rows_by<const N: usize, M: Marks, R: Read, W: Write>(
     payload: &mut Payload<R>,
     columns: Columns<'_>,
@@ -158,6 +159,7 @@ fn read_marked<M: Marks, R: Read, W: Write>(
 /// that the row before it ends in. Puts their lines, and returns how many they are. The lines of the whole
 /// rows count at a stop, and so does the text so far of the row that it stops in. Faults, places and the use
 /// of the small area are as in [`row`] (MS-TDS, ROW).
+#[tactic(auto, using(crate::proofs::Successes::rows_succeed))]
 pub fn read_rows<R: Read, W: Write>(
     payload: &mut Payload<R>,
     columns: Columns<'_>,
@@ -227,6 +229,7 @@ pub fn nbc_row<R: Read, W: Write>(
 /// whole rows count at a stop, and so does the text so far of the row that it stops in. A row's bitmap is read
 /// into the area, which is emptied before it, if the row isn't whole in the packet, is near the end of packet
 /// or block, or is the last. Faults, places and the areas' rooms are as in [`nbc_row`] (MS-TDS, NBCROW).
+#[tactic(auto, using(crate::proofs::Successes::rows_succeed))]
 pub fn read_nbc_rows<R: Read, W: Write>(
     payload: &mut Payload<R>,
     columns: Columns<'_>,
