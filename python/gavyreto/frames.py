@@ -1,7 +1,7 @@
 """The rows of a result set as a DataFrame of pandas, typed by the columns."""
 from __future__ import annotations
 
-from typing import Any, Optional, cast
+from typing import Any, Callable, Optional, cast
 
 from gavyreto.columns import Column
 from gavyreto.text import Columns, ResultSet
@@ -108,8 +108,8 @@ def _moments(pandas: Any, values: Any) -> Any:
         return pandas.Series(values, dtype=object)
 
 
-def frame_of(rows: ResultSet) -> Any:
-    """A DataFrame with the rows that are left of a set."""
+def frame_of(rows: ResultSet, made: Callable[[Any], Any] = lambda frame: frame) -> Any:
+    """A DataFrame with the rows that are left of a set, or what is made of it."""
     import pandas
 
     described = dict(enumerate(rows.columns or []))
@@ -119,7 +119,9 @@ def frame_of(rows: ResultSet) -> Any:
         for it, values in zip(gathered, columns):
             it.add(values)
 
-    rows.each(take, lambda: [it.values() for it in gathered])
-    frame = pandas.DataFrame({place: it.series() for place, it in enumerate(gathered)})
-    frame.columns = pandas.Index(rows.names)
-    return frame
+    def frame() -> Any:
+        frame = pandas.DataFrame({place: it.series() for place, it in enumerate(gathered)})
+        frame.columns = pandas.Index(rows.names)
+        return made(frame)
+
+    return rows.each(take, lambda: [it.values() for it in gathered], frame)

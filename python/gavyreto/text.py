@@ -6,13 +6,14 @@ import os
 import re
 import sys
 import threading
+import weakref
 from itertools import chain, islice, repeat
 from operator import length_hint
 from typing import Any, Callable, Iterator, NoReturn, Optional, Protocol, Sequence, TypeVar, Union, cast
 
 from gavyreto.columns import FLOATS, Column
 from gavyreto.errors import Error, Interrupted, MalformedText, NotOneSet, PassedOver, UnfinishedText
-from gavyreto.records import SEPARATOR, LongField, LongRecord, OpenField, Read, Records, end_of_set, outlined, record_at
+from gavyreto.records import BLOCK, SEPARATOR, LongField, LongRecord, OpenField, Read, Records, end_of_set, outlined, record_at
 from gavyreto.rows import Row, row_type
 from gavyreto.values import BINARY, NULL, QUOTE, Converter, Dates, Value, check_dates, value_of
 
@@ -200,22 +201,34 @@ def pass_over(field: Union[str, OpenField]) -> None:
 class Opened(io.IOBase):
     """A value, read from the text while it comes."""
 
-    _piece: Any  # of it, as far as it wasn't handed out; empty of its type before the first
+    _piece: Any  # of it, the last that came; empty of its type before the first
 
     def __init__(self, sets: Sets, place: int, field: OpenField) -> None:
-        self._sets, self._place, self._pieces = sets, place, field.pieces
+        self._sets, self._place, self._pieces, self._at = sets, place, field.pieces, 0  # of the piece so much was handed out
 
     def readable(self) -> bool:
         return True
 
-    def _take(self, most: int) -> Any:
+    def read(self, size: Optional[int] = -1) -> Any:
+        """So much, or less at the end; all of it without a size."""
+        return self._sets._guarded(lambda: self._much(sys.maxsize if size is None or size < 0 else size))
+
+    def _much(self, most: int) -> Any:
+        taken = []
+        while most and (piece := self._some(most)):
+            taken.append(piece)
+            most -= len(piece)
+        return self._piece[:0].join(taken)
+
+    def _some(self, most: int) -> Any:
         """What comes next, at most so much, and at least one byte or character; nothing at the end."""
-        while not self._piece:
+        while self._at == len(self._piece):
             piece = self._sets._step(lambda: next(self._pieces, None))
             if piece is None:
                 break
-            self._piece = piece
-        taken, self._piece = self._piece[:most], self._piece[most:]
+            self._piece, self._at = piece, 0
+        taken = self._piece[self._at:self._at + most]
+        self._at += len(taken)
         return taken
 
     def close(self) -> None:
@@ -225,27 +238,20 @@ class Opened(io.IOBase):
             self._sets._close_row(self._place, self._pieces)
 
 
-class ValueFile(Opened, io.RawIOBase):
+class ValueFile(Opened, io.BufferedIOBase):
     """The bytes of a value."""
 
     _piece = b""
 
-    def readinto(self, buffer: Any) -> int:
-        data = self._take(len(buffer))
-        buffer[:len(data)] = data
-        return len(data)
+    def read1(self, size: int = -1) -> bytes:
+        """The next bytes, at least one and at most so many, or none at the end."""
+        return self._sets._guarded(lambda: bytes(self._some(size if size > 0 else BLOCK)))
 
 
 class TextFile(Opened, io.TextIOBase):
     """The characters of a value."""
 
     _piece = ""
-
-    def read(self, size: Optional[int] = -1) -> str:
-        """At most so many characters, at least one, or none at the end; all of them without a size."""
-        if size is None or size < 0:
-            return "".join(iter(lambda: self.read(1 << 16), ""))
-        return str(self._take(size))
 
 
 class ResultSet:
@@ -285,18 +291,19 @@ class ResultSet:
 
     def fetchone(self) -> Optional[Row]:
         """The next row, or None after the last one (PEP 249)."""
-        with self._sets._guard:
-            for row in self._rows if self._gathered(1) else ():
-                return row
-            return None
+        return self._sets._guarded(self._following)
+
+    def _following(self) -> Optional[Row]:
+        return next(self._rows, None) if self._gathered(1) else None
 
     def fetchmany(self, size: Optional[int] = None) -> list[Row]:
         """The next rows: so many, or `arraysize` without a number, and fewer at the end (PEP 249)."""
+        return self._sets._guarded(lambda: self._many(self.arraysize if size is None else size))
+
+    def _many(self, size: int) -> list[Row]:
         rows: list[Row] = []
-        with self._sets._guard:
-            left = self.arraysize if size is None else size
-            while left > len(rows) and self._gathered(1, rows):
-                rows += islice(self._rows, left - len(rows))
+        while size > len(rows) and self._gathered(1, rows):
+            rows += islice(self._rows, size - len(rows))
         return rows
 
     def fetchall(self) -> list[Row]:
@@ -316,7 +323,9 @@ class ResultSet:
         """The rows that are left as a Table of pyarrow, which has to be there beside pandas, with the types of `frame`."""
         import pyarrow  # type: ignore[import]
 
-        return pyarrow.Table.from_pandas(self.frame(), preserve_index=False)
+        from gavyreto.frames import frame_of
+
+        return frame_of(self, lambda frame: pyarrow.Table.from_pandas(frame, preserve_index=False))
 
     def __iter__(self) -> Iterator[Row]:
         is_more = True
@@ -326,59 +335,65 @@ class ResultSet:
             except BaseException as failure:
                 self._sets._end_by(failure)
                 raise
-            with self._sets._guard:
-                is_more = self._gathered(1) > 0
+            is_more = self._sets._guarded(lambda: self._gathered(1)) > 0
 
     def __next__(self) -> Row:
-        row = self.fetchone()
-        if row is None:
-            raise StopIteration
-        return row
+        return self._sets._guarded(self._next)
+
+    def _next(self) -> Row:
+        self._gathered(1)
+        return next(self._rows)
 
     def batches(self, size: int) -> Iterator[Columns]:
         """The rows by columns: a list for each column, with so many values each time, and fewer at the end. Raises ValueError
         if the size is less than 1."""
         if size < 1:
             raise ValueError(f"a batch has at least 1 row, not {size}")
-        return iter(lambda: self._batch(size), [])
+        return iter(lambda: self._sets._guarded(lambda: self._batch(size)), [])
 
     def _batch(self, size: int) -> Columns:
         """The next batch, or nothing after the last one."""
-        with self._sets._guard:
-            if not self._gathered(size):
-                return []
-            at = len(self._values[0]) - length_hint(self._first)
-            batch = [values[at:at + size] for values in self._values]
-            self._go_to(at + len(batch[0]))
-            return batch
+        if not self._gathered(size):
+            return []
+        at = len(self._values[0]) - length_hint(self._first)
+        batch = [values[at:at + size] for values in self._values]
+        self._go_to(at + len(batch[0]))
+        return batch
 
-    def each(self, take: Callable[[Columns], object], taken: Callable[[], Columns]) -> None:
-        """Hands the rows that are left to a call, some at a time, by columns. If an error comes it is raised, and `taken` gives all of them
-        back: they are left then."""
-        with self._sets._guard:
-            try:
-                while self._gathered(1):
-                    at = len(self._values[0]) - length_hint(self._first)
-                    take([values[at:] for values in self._values] if at else self._values)
-                    self._go_to(len(self._values[0]))
-            except Error as failure:
-                handed_out, self._values = self._handed_out(), taken()
-                self._before = handed_out - len(self._values[0])
-                self._go_to(0)
+    def each(self, take: Callable[[Columns], object], taken: Callable[[], Columns], made: Callable[[], T]) -> T:
+        """Hands the rows that are left to a call, some at a time, by columns, and returns what is made of all of them. If an error comes it
+        is raised, and `taken` gives them back: they are left then."""
+        return self._sets._guarded(lambda: self._each(take, taken, made))
+
+    def _each(self, take: Callable[[Columns], object], taken: Callable[[], Columns], made: Callable[[], T]) -> T:
+        try:
+            while self._gathered(1):
+                at = len(self._values[0]) - length_hint(self._first)
+                take([values[at:] for values in self._values] if at else self._values)
+                self._go_to(len(self._values[0]))
+            return made()
+        except (Error, ValueError) as failure:
+            handed_out, self._values = self._handed_out(), taken()
+            self._before = handed_out - len(self._values[0])
+            self._go_to(0)
+            if isinstance(failure, Error):
                 failure.rows = self._sets.rows
-                raise
+            raise
 
     @property
     def is_dated(self) -> bool:
         """Whether dates and times are those of Python."""
         return bool(self._sets._parser.dates)
 
-    def open(self, column: Union[int, str] = 0) -> Union[None, io.BufferedReader, io.BytesIO, io.StringIO, TextFile]:
+    def open(self, column: Union[int, str] = 0) -> Union[None, io.BytesIO, io.StringIO, ValueFile, TextFile]:
         """The value of a column in the next row, as a file of bytes or of text that is read once, in fixed memory however long
         the value is; None for NULL. Its `close` passes over the rest of the row, and is needed before anything else is read.
 
         Raises StopIteration after the last row, and ValueError if the value has neither bytes nor text, or the file before
         isn't closed."""
+        return self._sets._guarded(lambda: self._open(column))
+
+    def _open(self, column: Union[int, str]) -> Union[None, io.BytesIO, io.StringIO, ValueFile, TextFile]:
         place = self.names.index(column) if isinstance(column, str) else range(len(self.names))[column]
         if length_hint(self._first):
             return _file_of(next(self)[place])
@@ -391,8 +406,9 @@ class ResultSet:
         if isinstance(field, str):
             self._sets._close_row(place, iter(()))
             return _file_of(value_of(field))
-        self._sets._opened = ValueFile(self._sets, place, field) if field.shape is BINARY else TextFile(self._sets, place, field)
-        return io.BufferedReader(self._sets._opened) if isinstance(self._sets._opened, ValueFile) else self._sets._opened
+        file = ValueFile(self._sets, place, field) if field.shape is BINARY else TextFile(self._sets, place, field)
+        self._sets._opened = weakref.ref(file)
+        return file
 
     def _check_passed_over(self) -> None:
         if self._is_passed_over:
@@ -475,22 +491,6 @@ def _file_of(value: Value) -> Union[None, io.BytesIO, io.StringIO]:
 T = TypeVar("T")
 
 
-class Guard:
-    """A context in which one thread reads. Another one is refused meanwhile, and what ends it from elsewhere ends the reading."""
-
-    def __init__(self, sets: Sets) -> None:
-        self._sets, self._lock = sets, threading.RLock()
-
-    def __enter__(self) -> None:
-        if not self._lock.acquire(blocking=False):
-            raise ValueError("another thread reads from here")
-
-    def __exit__(self, _: object, failure: Optional[BaseException], __: object) -> None:
-        if failure:
-            self._sets._end_by(failure)
-        self._lock.release()
-
-
 class Sets:
     """An iterator over result sets, and a context that closes what it reads from.
 
@@ -503,12 +503,12 @@ class Sets:
         self._descriptions, self._adapts = descriptions, adapts
         self._parser = Parser(read, dates, self._floats_of)
         self._current: Optional[ResultSet] = None
-        self._opened: Union[None, ValueFile, TextFile] = None  # the last value that was opened as a file
+        self._opened: Callable[[], Optional[Opened]] = lambda: None  # the last value that was opened as a file; who drops one closes it
         self._rows_before = 0  # of the sets before the current one
         self._failure: Optional[BaseException] = None
         self._is_untold = False  # whether rows before the failure were handed out, and it wasn't raised since
         self._is_closed = self._is_ended = self._is_only = False  # only: whether there may be one set alone
-        self._guard = Guard(self)
+        self._lock = threading.RLock()
 
     def _floats_of(self, place: int) -> list[bool]:
         """Which columns of a set have texts of floats; nothing if none has."""
@@ -532,14 +532,14 @@ class Sets:
         return self
 
     def __next__(self) -> ResultSet:
-        return self._next_set(False)
+        return self._guarded(lambda: self._next_set(False))
 
     def only(self) -> ResultSet:
         """The one set that is there. Raises NotOneSet: at once if there is none, after the last row if another set
         follows."""
         self._is_only = True
         try:
-            return self._next_set(True)
+            return self._guarded(lambda: self._next_set(True))
         except StopIteration:
             self._raise(NotOneSet("no result set"))
 
@@ -552,22 +552,36 @@ class Sets:
 
     def _check_closed(self) -> None:
         """Sees to it that nothing is read past a value that is open."""
-        if self._opened and not self._opened.closed and not self._failure and not self._is_closed:
+        opened = self._opened()
+        if opened and not opened.closed and not self._failure and not self._is_closed:
             raise ValueError("the value that was opened before isn't closed")
+
+    def _guarded(self, call: Callable[[], T]) -> T:
+        """What a call gives, within which one thread reads. Another one is refused meanwhile, and what ends it from elsewhere ends the
+        reading, up to the return: what it would have given is lost."""
+        if not self._lock.acquire(blocking=False):
+            raise ValueError("another thread reads from here")
+        try:
+            try:
+                return call()
+            finally:
+                self._lock.release()
+        except BaseException as failure:
+            self._end_by(failure)
+            raise
 
     def _next_set(self, is_only: bool) -> ResultSet:
         self._check_closed()
-        with self._guard:
-            if self._current:
-                self._current._leave()
-            names = self._step(self._parser.next_header)
-            if names is None:
-                self._end()
-                raise StopIteration
-            self._rows_before = self.rows
-            self._current = ResultSet(self, self.sets, names, is_only)
-            self.sets += 1
-            return self._current
+        if self._current:
+            self._current._leave()
+        names = self._step(self._parser.next_header)
+        if names is None:
+            self._end()
+            raise StopIteration
+        self._rows_before = self.rows
+        self._current = ResultSet(self, self.sets, names, is_only)
+        self.sets += 1
+        return self._current
 
     def _next_rows(self, is_only: bool) -> Optional[Columns]:
         self._check_closed()
@@ -597,19 +611,21 @@ class Sets:
             self._raise(NotOneSet(SEVERAL))
 
     def _step(self, step: Callable[[], T]) -> T:
-        with self._guard:
-            if self._failure:
-                self._raise_again()
-            if self._is_closed and not self._is_ended:
-                raise ValueError("the reading was closed")
-            try:
-                return step()
-            except ValueError as wrong:
-                self._raise(MalformedText(str(wrong)))
-            except EOFError:
-                self._parser.is_over = True
-                self._end()
-                self._raise(UnfinishedText(self._parser.records.rest))
+        return self._guarded(lambda: self._stepped(step))
+
+    def _stepped(self, step: Callable[[], T]) -> T:
+        if self._failure:
+            self._raise_again()
+        if self._is_closed and not self._is_ended:
+            raise ValueError("the reading was closed")
+        try:
+            return step()
+        except ValueError as wrong:
+            self._raise(MalformedText(str(wrong)))
+        except EOFError:
+            self._parser.is_over = True
+            self._end()
+            self._raise(UnfinishedText(self._parser.records.rest))
 
     def _end(self) -> None:
         """The text is over: raises what is to be told of it."""

@@ -6,6 +6,7 @@ import io
 import os
 import random
 import socket
+import sys
 import threading
 import time
 import traceback
@@ -33,6 +34,30 @@ def connected(port: int, **options: Any) -> gavyreto.Connection:
 def text_of(data: bytes, step: int = 1 << 16) -> Sets:
     source = io.BytesIO(data)
     return Sets(lambda most: source.read(min(most, step)), False)
+
+
+def interrupted(at: int, call: Callable[[], object]) -> bool:
+    """Makes a call, to which an interrupt comes at a line of the package, by its number, if there are so many. Returns whether one came."""
+    steps = 0
+
+    def step(frame: Any, event: str, _: object) -> Any:
+        nonlocal steps
+        if event == "return" or f"{os.sep}gavyreto{os.sep}" not in frame.f_code.co_filename:
+            return step
+        steps += 1
+        if steps == at:
+            raise KeyboardInterrupt
+        return step
+
+    before = sys.gettrace()
+    sys.settrace(step)
+    try:
+        call()
+    except (KeyboardInterrupt, gavyreto.Interrupted):
+        pass  # Python drops the first where a generator ends that is left
+    finally:
+        sys.settrace(before)
+    return steps >= at
 
 
 class Rows(unittest.TestCase):
@@ -113,6 +138,48 @@ class Rows(unittest.TestCase):
                         again()
                     errors.append(raised.exception)
                 self.assertEqual(len({id(error) for error in errors}), 1)
+
+    def test_an_interrupt_at_any_line(self) -> None:
+        """Of a call that has taken rows, up to its return: they were handed out, or the reading has failed."""
+        calls: list[Callable[[Any], list[Any]]] = [
+            lambda rows: [row for row in [rows.fetchone()] if row], lambda rows: rows.fetchmany(3), lambda rows: list(islice(rows, 1)),
+            lambda rows: list(zip(*next(rows.batches(3), [])))]
+        for call in calls:
+            at = 1
+            while self.interrupted_rows(at, call):
+                at += 2
+            self.assertGreater(at, 200)
+
+    def interrupted_rows(self, at: int, call: Callable[[Any], list[Any]]) -> bool:
+        """Reads rows by a call, the first of which is interrupted. Returns whether it was."""
+        came = text_of(b'"a"\r\n' + b"".join(b"%d\r\n" % n for n in range(9)) + b'\r\n"b"\r\n', 30)
+        rows, found = cast(Any, None), list[int]()
+
+        def read() -> None:
+            nonlocal rows
+            rows = rows or next(came)
+            while len(found) < 9 and (more := call(rows)):
+                found.extend(row[0] for row in more)
+
+        is_interrupted = interrupted(at, read)
+        with contextlib.suppress(gavyreto.Interrupted):
+            read()
+            self.assertEqual(found, list(range(9)), at)
+        return is_interrupted
+
+    def test_an_interrupt_within_a_value(self) -> None:
+        """What is read of it after that is all of it, or the reading has failed."""
+        for value, data in ("x" * 300, b'"%s"' % (b"x" * 300)), (b"\xAB" * 300, b"0x" + b"ab" * 300):
+            at, is_interrupted = 1, True
+            while is_interrupted:
+                with text_of(b'"a"\r\n' + data + b"\r\n", 50).only().open() as file:  # type: ignore[union-attr]
+                    found = list[Any]()
+                    is_interrupted = interrupted(at, lambda: found.append(file.read()))
+                    with contextlib.suppress(gavyreto.Interrupted):
+                        found = found or [file.read()]
+                        self.assertEqual(found, [value])
+                at += 2
+            self.assertGreater(at, 50)
 
     def test_a_second_thread_is_refused(self) -> None:
         begun, go_on = threading.Event(), threading.Event()
