@@ -9,13 +9,13 @@ import threading
 import weakref
 from itertools import chain, islice, repeat
 from operator import length_hint
-from typing import Any, Callable, Iterator, NoReturn, Optional, Protocol, Sequence, TypeVar, Union, cast
+from typing import Any, Callable, Iterator, NamedTuple, NoReturn, Optional, Protocol, Sequence, TypeVar, Union, cast
 
 from gavyreto.columns import FLOATS, Column
 from gavyreto.errors import Error, Interrupted, MalformedText, NotOneSet, PassedOver, UnfinishedText
-from gavyreto.records import BLOCK, SEPARATOR, LongField, LongRecord, OpenField, Read, Records, end_of_set, outlined, record_at
+from gavyreto.records import BLOCK, SEPARATOR, LongField, LongRecord, OpenField, Read, Records, end_of_set, joined, outlined, record_at
 from gavyreto.rows import Row, row_type
-from gavyreto.values import BINARY, NULL, QUOTE, Converter, Dates, Value, check_dates, value_of
+from gavyreto.values import BINARY, FLOAT, NULL, QUOTE, Converter, Dates, Value, check_dates, value_of
 
 TO_ZEROS, TO_COMMAS = bytes.maketrans(b"123456789", b"000000000"), bytes.maketrans(b"\n", b",")
 SEVERAL = "several sets: split them first, as docs/RECIPES.md has it in \"Several result sets\""
@@ -163,16 +163,13 @@ class Parser:
             raise ValueError(f"a row has {width} fields, and its header {len(self._converters)}")
 
     def _value(self, converter: Converter, field: Union[str, LongField]) -> Value:
-        if isinstance(field, str):
-            return converter.value(field)
-        converter.accept(field.shape)
-        return field.value
+        return converter.value(field) if isinstance(field, str) else converter.long_value(field.value, field.shape)
 
     # A row of which one value is read by somebody else, in pieces.
 
-    def open_row(self, place: int) -> Union[None, str, OpenField]:
+    def open_row(self, place: int) -> Union[None, Held, OpenField]:
         """Goes to a column of the next row, and returns its field, which has to be read before `close_row`; None after the last
-        row."""
+        row. Raises ValueError if it isn't like those before it."""
         if not self._fill() or self._is_separated():
             return None
         self.records.put_back(self._block[self._at:])
@@ -181,7 +178,13 @@ class Parser:
             pass_over(self.records.open_field())
             if self.records.end_of_field() != ",":
                 raise ValueError("a row has fewer fields than its header")
-        return self.records.open_field()
+        field, converter = self.records.open_field(), self._converters[place]
+        if isinstance(field, str):
+            return Held(converter.value(field))
+        if converter.shape is FLOAT:
+            return Held(converter.long_value(joined(field), field.shape))
+        converter.accept(field.shape)
+        return field
 
     def close_row(self, place: int) -> None:
         """Passes over what is left of a row after the column that was read."""
@@ -191,6 +194,12 @@ class Parser:
             width += 1
         self._check_width(width)
         self.rows += 1
+
+
+class Held(NamedTuple):
+    """A value of a row that was opened, which is none of text or bytes, or NULL."""
+
+    value: Value
 
 
 def pass_over(field: Union[str, OpenField]) -> None:
@@ -403,9 +412,9 @@ class ResultSet:
             self._is_over = True
             raise StopIteration
         self._before += 1
-        if isinstance(field, str):
+        if isinstance(field, Held):
             self._sets._close_row(place, iter(()))
-            return _file_of(value_of(field))
+            return _file_of(field.value)
         file = ValueFile(self._sets, place, field) if field.shape is BINARY else TextFile(self._sets, place, field)
         self._sets._opened = weakref.ref(file)
         return file
@@ -590,7 +599,7 @@ class Sets:
             self._end_set(is_only)
         return columns
 
-    def _open_row(self, place: int, is_only: bool) -> Union[None, str, OpenField]:
+    def _open_row(self, place: int, is_only: bool) -> Union[None, Held, OpenField]:
         self._check_closed()
         field = self._step(lambda: self._parser.open_row(place))
         if field is None:

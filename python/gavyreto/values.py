@@ -111,6 +111,13 @@ class Converter:
         if self.shape.name != shape.name:
             raise ValueError(f"in the column {self.name!r} a {shape.name} is no {self.shape.name}, as those before it are")
 
+    def long_value(self, value: Union[str, bytes], shape: Shape) -> Value:
+        """The value of a field that was read piece by piece. Raises ValueError if it isn't like those before it."""
+        if self.shape is FLOAT and shape is TEXT:
+            return _float(str(value))
+        self.accept(shape)
+        return value
+
     @property
     def is_quoted(self) -> bool:
         """Whether the fields have quotes around them."""

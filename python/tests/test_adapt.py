@@ -248,6 +248,18 @@ class FromPython(unittest.TestCase):
                     self.assertEqual(repr([tuple(row) for row in came]), repr(rows_of_floats))
                 self.assertTrue(response.is_whole)
 
+    def test_floats_beside_a_long_value(self) -> None:
+        """A row that is read field by field has the same values, and no float is a file."""
+        columns = [responses.Column("f", "6D08", responses.short, responses.double, float), responses.Column("t", "E7FFFF", responses.chunked, responses.wide, str)]
+        for length in (9, 1_100_000):
+            pieces = [responses.description(columns), responses.row(columns, ["1.5", "x" * length]) * 3, served.done()]
+            data = b"".join(tds.packets(pieces, 32767))
+            with self.subTest(length=length), gavyreto.export(data, adapt=True, program=PROGRAM) as response:
+                rows = response.only()
+                with self.assertRaisesRegex(ValueError, "1.5 has neither bytes nor text"):
+                    rows.open("f")
+                self.assertEqual([row[0] for row in rows], [1.5, 1.5])
+
     def test_what_cannot_be_followed(self) -> None:
         float_ = responses.Column("x", "6D08", responses.fixed, responses.as_it_is, bytes)
         good, bad = b"\x08" + struct.pack("<d", 0.5), b"\x08" + b"\xFF" * 8

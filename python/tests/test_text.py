@@ -1,6 +1,7 @@
 """Tests of reading texts: values, rows, sets, and texts that are none."""
 from __future__ import annotations
 
+import contextlib
 import resource
 import subprocess
 import sys
@@ -142,6 +143,18 @@ class ByColumns(unittest.TestCase):
             self.assertEqual(next(rows), (2, "", b""))
             with self.assertRaises(ValueError):
                 rows.open("n")
+
+    def test_a_value_as_a_file_whatever_was_read_before(self) -> None:
+        """What is none of text or bytes is refused, and a row that is none fails the reading, whether or not rows wait in the buffer."""
+        for is_read in (False, True):
+            for first, second, kind in (("1", "2", ValueError), ("2024-01-01", "2024-01-02", ValueError), ("1", "?", gavyreto.MalformedText), ('"1"', "0x00", gavyreto.MalformedText)):
+                with self.subTest(second=second, is_read=is_read), sets_of(f'"a"\r\n{first}\r\n{second}\r\n3\r\n'.encode(), 1 << 20 if is_read else 5, dates=True) as came:
+                    rows = came.only()
+                    next(rows)
+                    with self.assertRaises(kind):
+                        rows.open()
+                    with self.assertRaises(gavyreto.MalformedText) if kind is not ValueError or "-" in first else contextlib.nullcontext():
+                        self.assertEqual(rows.fetchall(), [(3,)])
 
     def test_nothing_is_read_past_a_value_that_is_open(self) -> None:
         for text, kind in (('"a","b"\r\n"' + "x" * 3_000_000 + '",1\r\n"y",2\r\n\r\n"c"\r\n', str), ('"a","b"\r\n0x' + "ab" * 3_000_000 + ',1\r\n0x00,2\r\n', bytes)):
