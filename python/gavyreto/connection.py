@@ -55,6 +55,7 @@ class Channel:
         self.tls: Optional[ssl.SSLObject] = None
         self._received, self._to_send = ssl.MemoryBIO(), ssl.MemoryBIO()
         self._block = b""  # received and not used
+        self._is_within = False  # whether a part of a record of TLS has come, and not its rest
         self._left = float(seconds)
         self._until, self._why = 0.0, ""  # the end of a limit, and what is told then
 
@@ -95,12 +96,7 @@ class Channel:
         if not self.tls:
             return bool(data or self._received.pending)
         self._received.write(data)
-        try:
-            return bool(self.tls.pending() or self.tls.read(1))
-        except ssl.SSLZeroReturnError:
-            return False
-        except ssl.SSLWantReadError:
-            return bool(self._received.pending)
+        return bool(self.tls.pending() or self._decrypted(1) or self._is_within)
 
     def is_over(self) -> bool:
         """Whether the other side has closed, where nothing more has come."""
@@ -115,25 +111,36 @@ class Channel:
         self._left = seconds
         try:
             self.socket.shutdown(socket.SHUT_WR)
-            return bool(self._block or self.receive())
+            return bool(self._block or self.receive() or self._is_within)
         except ssl.SSLError:
             return True
         except OSError:  # it is reset, or isn't ended
-            return False
+            return self._is_within
 
     def receive(self) -> bytes:
         """The next bytes, decrypted, or none if the other side has closed."""
         while self.tls:
-            try:
-                return self.tls.read(BLOCK)
-            except ssl.SSLZeroReturnError:
+            decrypted = self._decrypted(BLOCK)
+            if decrypted is not None:
+                return decrypted
+            data = self._receive()
+            if not data:
                 return b""
-            except ssl.SSLWantReadError:
-                data = self._receive()
-                if not data:
-                    return b""
-                self._received.write(data)
+            self._received.write(data)
         return self._receive()
+
+    def _decrypted(self, most: int) -> Optional[bytes]:
+        """The next bytes of those that have come, none at the end of TLS; None if they are no whole record."""
+        assert self.tls
+        self._is_within = self._is_within or self._received.pending > 0
+        try:
+            data = self.tls.read(most)
+        except ssl.SSLZeroReturnError:
+            data = b""
+        except ssl.SSLWantReadError:
+            return None
+        self._is_within = False
+        return data
 
     def read(self, most: int) -> bytes:
         """The next bytes, at least one and at most so many, or none if the other side has closed."""

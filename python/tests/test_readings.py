@@ -260,6 +260,32 @@ class Connections(Live):
                 with self.assertRaisesRegex(gavyreto.ConnectionFailed, f"closed after: {UNASKED}"):
                     connection.query("x", program=PROGRAM)
 
+    def test_a_part_of_a_record_behind_an_answer(self) -> None:
+        """It is none of the next answer, nor of the last one, whether the server ends the connection or waits."""
+        context = context_of(self.server(()).variables["CERTIFICATE"])
+
+        def serve(channel: Channel, length: int, ends: bool) -> None:
+            log_in_encrypted(channel, context)
+            channel.read_message()
+            records = []
+            for _ in range(2):
+                cast(Any, channel.tls).write(ORDERED)
+                records.append(channel._to_send.read())
+            channel.socket.sendall(records[0] + records[1][:length])
+            if ends:
+                channel.socket.shutdown(socket.SHUT_WR)
+            channel.wait()
+            while channel.receive():
+                pass
+
+        for length, ends, asks in ((1, False, False), (5, True, False), (-1, False, False), (-1, False, True), (3, False, True)):
+            with self.subTest(length=length, ends=ends, asks=asks):
+                with listening(lambda channel, it=(length, ends): serve(channel, *it)) as port, self.assertRaisesRegex(gavyreto.BadAnswer, UNASKED):  # type: ignore[misc]
+                    with connected(port, encrypt="all", trust_server=True) as connection:
+                        self.assertEqual(len(connection.query("x", program=PROGRAM).only().fetchall()), 3)
+                        if asks:
+                            connection.query("x", program=PROGRAM)
+
     def test_a_surplus_behind_the_last_answer(self) -> None:
         """It is told whether it comes at once or a little later, at the end of the connection or of the one answer."""
         for pause in (0.0, 0.02):
