@@ -115,6 +115,27 @@ class Outputs(Live):
             came = self.query(f"TRUSTED -o 'r{{}}' {words}", (), "ln -sf one r1; ln -sf one r2; ")
             self.assertEqual((came.returncode, came.stderr.decode().splitlines()[-1]), (2, "r1 and r2 are one file"))
 
+    def test_names_of_open_descriptors(self) -> None:
+        """What is written there goes on where it is: what is before and behind it stays."""
+        asked = '$QUERY -S 127.0.0.1,$PORT -U reader --program "$PROGRAM" --certificates "$CERTIFICATE" "SELECT * FROM orders"'
+        before, after = b"before\n", b"after\n"
+        for words, where, wanted in (
+            ("-o /dev/stdout", "> rows", ORDERS), ("-o /dev/stdout", ">> rows", ORDERS), ("-o /dev/stdout", "| cat > rows", ORDERS),
+            ("-o /dev/fd/3", "> rows", ORDERS), ("--packets /proc/self/fd/1 -o text", "> rows", self.text("orders.tds")),
+        ):
+            with self.subTest(words=words, where=where):
+                came = self.beside((), f"rm -f rows; (echo before; {asked} {words} 3>&1; echo after) {where}")
+                self.assertEqual((came.returncode, self.text("rows")), (0, before + wanted + after), came.stderr)
+        came = self.beside((), f"(echo before; {sys.executable} -m gavyreto adapt -o /dev/stdout orders.tds; echo after) > rows")
+        self.assertEqual(self.text("rows"), before + self.text("orders.tds") + after)
+        came = self.beside((), f"{asked} -o /dev/stdout >&-")
+        self.assert_ends(came, 5, b"", "standard output is closed")
+
+    def test_names_that_get_too_long(self) -> None:
+        """Of ten outputs the last has a name that is too long until its text is whole: nothing is sent."""
+        came = ask_port(1, "-o", "n" * 246 + "{}", *["SELECT 1"] * 10, cwd=self.folder)
+        self.assert_ends(came, 5, b"", "n" * 246 + "10: can't be written")
+
     def test_a_pipe_is_opened_before_the_login(self) -> None:
         """Who waits for a reader keeps no server waiting."""
         os.mkfifo(self.path("pipe"))

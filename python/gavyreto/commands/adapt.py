@@ -13,7 +13,7 @@ import argparse
 import os
 
 from gavyreto.adapting import Adapter
-from gavyreto.commands.common import STANDARD_OUTPUT, STREAMS, Stopped, cause_of, is_one_file, needed, open_response, parser_of
+from gavyreto.commands.common import STANDARD_OUTPUT, STREAMS, Stopped, cause_of, is_one_file, needed, open_response, opened_by, parser_of
 from gavyreto.program import BAD_INPUT, CHARSETS, FAILED, REFUSED, write_all
 
 
@@ -34,7 +34,8 @@ def adapt(asked: argparse.Namespace) -> None:
         if is_one_file(out, source.fileno()):
             raise Stopped(f"{name}: the response is read from it", REFUSED)
         try:
-            target = out if isinstance(out, int) else os.open(out, os.O_WRONLY | os.O_CREAT | os.O_TRUNC, 0o666)
+            opened = out if isinstance(out, int) else opened_by(out)
+            target = os.open(out, os.O_WRONLY | os.O_CREAT | os.O_TRUNC, 0o666) if opened is None else opened
         except OSError as failure:
             raise Stopped(f"{name}: {cause_of(failure)}", FAILED) from None
 

@@ -20,6 +20,7 @@ from gavyreto.program import BAD_INPUT, FAILED, INTERRUPTED, NO_MEMORY, REFUSED,
 STANDARD_INPUT, STANDARD_OUTPUT, STANDARD_ERROR = 0, 1, 2
 STREAMS = ("standard input", "standard output", "standard error")
 LONGEST_HEAD = 4096  # bytes by which a file is known
+MOST_LINKS = 40  # of a name, one after the other, as Linux follows
 CAPTURE = "a capture of the network: gavyreto capture reads it"
 BEGINNINGS = {
     b"\xD4\xC3\xB2\xA1": CAPTURE, b"\xA1\xB2\xC3\xD4": CAPTURE, b"\x4D\x3C\xB2\xA1": CAPTURE, b"\xA1\xB2\x3C\x4D": CAPTURE,
@@ -142,6 +143,19 @@ def needed(number: int) -> int:
     if number in _closed:
         raise Stopped(f"{STREAMS[number]} is closed", FAILED)
     return number
+
+
+def opened_by(path: str) -> Optional[int]:
+    """The open descriptor that a name stands for, as /dev/stdout and /dev/fd/3 do; None if it is that of a file."""
+    own = os.path.realpath("/proc/self/fd")
+    for _ in range(MOST_LINKS):
+        folder, name = os.path.split(path)
+        if name.isdecimal() and os.path.realpath(folder) == own:
+            return needed(int(name))
+        if not os.path.islink(path):
+            break
+        path = os.path.join(folder, os.readlink(path))
+    return None
 
 
 def open_response(name: str) -> IO[bytes]:

@@ -35,7 +35,7 @@ from gavyreto.asking import Asking, Interrupt
 from gavyreto.commands import common
 from gavyreto.commands.common import (
     STANDARD_INPUT, STANDARD_OUTPUT, STREAMS, Stopped, add_options_of_program, cause_of, checked_program, is_one_file, needed,
-    number_in, parser_of, tell_all,
+    number_in, opened_by, parser_of, tell_all,
 )
 from gavyreto.connection import Secret, Session
 from gavyreto.logins import LONGEST_TOKEN
@@ -147,9 +147,25 @@ def check(found: list[Batch], asked: argparse.Namespace) -> None:
     for number in range(1, min(count, CHECKED_OUTPUTS) + 1):
         for path in (path_of(it, number) for it in templates_of(asked)):
             names.take(path)
-            where = path if os.path.exists(path) else os.path.dirname(path) or "."
-            if os.path.isdir(path) or not os.access(where, os.W_OK):
+            if not is_writable(path):
                 raise Stopped(f"{path}: can't be written", FAILED)
+
+
+def is_writable(path: str) -> bool:
+    """Whether an output can be opened, as far as that is known before: a descriptor or what is no regular file itself, else the file
+    beside it."""
+    if opened_by(path) is not None:
+        return True
+    real = os.path.realpath(path)
+    if os.path.lexists(real) and not (os.path.isfile(real) and os.access(real, os.W_OK)):
+        return not os.path.isdir(real) and os.access(real, os.W_OK)
+    try:
+        os.lstat(real + PARTIAL)
+    except FileNotFoundError:
+        pass
+    except OSError:  # its name is too long, or its folder is none
+        return False
+    return os.access(os.path.dirname(real), os.W_OK)
 
 
 class Names:
@@ -201,9 +217,10 @@ class Outputs:
             return program.Output(STANDARD_OUTPUT, SEPARATOR if self._is_begun else b"")
         path = path_of(self._template, number)
         self._names.take(path)
-        self._path = os.path.realpath(path)
+        opened = opened_by(path)
+        self._path, self._waiting = path if opened is not None else os.path.realpath(path), ""
         try:
-            self._descriptor = self._opened()
+            self._descriptor = self._opened() if opened is None else os.dup(opened)
         except OSError as failure:
             raise Stopped(f"{path}: {cause_of(failure)}", FAILED) from None
         return program.Output(self._descriptor)
@@ -215,7 +232,6 @@ class Outputs:
         except FileNotFoundError:
             mode = 0
         if mode and not stat.S_ISREG(mode):
-            self._waiting = ""
             return os.open(self._path, os.O_WRONLY | os.O_CLOEXEC)
         self._waiting = self._path + PARTIAL
         with contextlib.suppress(FileNotFoundError):
