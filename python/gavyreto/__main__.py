@@ -16,19 +16,15 @@ def _interrupted(_: int, __: object) -> NoReturn:
         os._exit(INTERRUPTED)
 
 
-_came = False  # whether Ctrl-C came while a command ran
+_came: Optional[BaseException] = None  # the last signal that came while a command ran
 
 
-def _raising(_: int, __: object) -> NoReturn:
-    """Ctrl-C while a command runs. An exception that is raised where Python drops one, as in the call of a weak reference, ends
+def _raising(number: int, _: object) -> NoReturn:
+    """A signal while a command runs. An exception that is raised where Python drops one, as in the call of a weak reference, ends
     nothing: that it came is kept too."""
     global _came
-    _came = True
-    raise KeyboardInterrupt
-
-
-def _ending(number: int, _: object) -> NoReturn:
-    raise common.Signalled(number)
+    _came = KeyboardInterrupt() if number == signal.SIGINT else common.Signalled(number)
+    raise _came
 
 
 def _begin() -> None:
@@ -82,12 +78,12 @@ def run(words: list[str]) -> int:
 def run_command(name: str, words: list[str]) -> int:
     """Runs a command. Ctrl-C raises KeyboardInterrupt as long as it runs, and what else ends it, by default, `Signalled`."""
     command = importlib.import_module(f"gavyreto.commands.{name}")
-    before = {number: signal.getsignal(number) for number in (signal.SIGINT, signal.SIGTERM, signal.SIGHUP)}
+    before = {number: signal.getsignal(number) for number in common.SIGNALS}
     try:
         for number, handler in before.items():
             if handler is _interrupted or handler is signal.SIG_DFL:
                 with contextlib.suppress(ValueError):  # only the main thread may set one, which alone changes it
-                    signal.signal(number, _raising if number == signal.SIGINT else _ending)
+                    signal.signal(number, _raising)
         return int(command.run(words))
     finally:
         for number, handler in before.items():
@@ -108,8 +104,8 @@ def ending(words: list[str]) -> tuple[str, int]:
 def ended(words: list[str]) -> int:
     """Runs a command, and returns its exit status: whatever ends it is a line on standard error."""
     line, status = ending(words)
-    if _came and status != program.INTERRUPTED:
-        line, status = common.ending_of(KeyboardInterrupt())
+    if _came and status != common.ending_of(_came)[1]:
+        line, status = common.ending_of(_came)
     if line:
         common.tell(line)
     return status

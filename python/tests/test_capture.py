@@ -12,13 +12,11 @@ import subprocess
 import sys
 import tempfile
 import unittest
-import weakref
 from pathlib import Path
 from typing import BinaryIO, Optional, cast
 from unittest import mock
 
 from gavyreto import tds
-from gavyreto.commands.capture import Terminated, ending_by_signal
 from tests.beside import (
     PROGRAM, ROOT, Live, answered, assert_signalled, is_waiting, lines_of, need, running_in, served, skip, started, stepped, wait_for, wire,
 )
@@ -342,13 +340,24 @@ class Captures(unittest.TestCase):
                     self.assertLessEqual(left.items(), texts.items())
                     self.assertLessEqual({line.split(b'"')[1].decode() for line in lines[1:]}, left.keys())
 
-    def test_sigterm_that_python_drops(self) -> None:
-        """An exception in the call of a weak reference ends nothing: it is raised in the end."""
-        with mock.patch.object(sys, "unraisablehook"), self.assertRaises(Terminated), ending_by_signal():
-            thing = captures.Capture()
-            held = weakref.ref(thing, lambda _: signal.raise_signal(signal.SIGTERM))
-            del thing
-            self.assertIsNone(held())
+    def test_a_signal_while_the_folder_is_made(self) -> None:
+        """Each of them waits, and the folder is removed."""
+        program = (
+            "import os, runpy, signal, sys, tempfile\n"
+            "make, number = tempfile.mkdtemp, int(sys.argv.pop(1))\n"
+            "def mkdtemp(*words, **options):\n"
+            "    folder = make(*words, **options)\n"
+            "    signal.raise_signal(number)\n"
+            "    return folder\n"
+            "tempfile.mkdtemp = mkdtemp\n"
+            "runpy.run_module('gavyreto', run_name='__main__', alter_sys=True)\n")
+        with open(os.path.join(self.folder, "capture"), "wb") as file:
+            conversation().write(file)
+        for number, line in (signal.SIGINT, b"interrupted\n"), (signal.SIGTERM, b"ended by SIGTERM\n"), (signal.SIGHUP, b"ended by SIGHUP\n"):
+            out = tempfile.mkdtemp(dir=self.folder)
+            words = [sys.executable, "-c", program, str(int(number)), "capture", "--program", PROGRAM, file.name, out]
+            came = subprocess.run(words, capture_output=True, check=False, **started())
+            self.assertEqual((came.returncode, came.stderr, os.listdir(out)), (128 + number, line, []))
 
 
 class Written(Live):

@@ -102,24 +102,26 @@ class Interrupts(Live):
             self.assertEqual(thread.submit(entry.ending, ["columns", "--help"]).result(), ("", 0))
         self.assertIn("usage", said.getvalue())
 
-    def test_ctrl_c_that_python_drops(self) -> None:
-        """An exception in the call of a weak reference ends nothing: the command goes on, and says in the end that it was interrupted."""
+    def test_a_signal_that_python_drops(self) -> None:
+        """An exception in the call of a weak reference ends nothing: the command goes on, and says in the end what came."""
         program = (
             "import signal, sys, weakref; from gavyreto.commands import columns\n"
             "class Thing: pass\n"
             "def run(words):\n"
             "    thing = Thing()\n"
-            "    held = weakref.ref(thing, lambda _: signal.raise_signal(signal.SIGINT))\n"
+            "    held = weakref.ref(thing, lambda _: signal.raise_signal(number))\n"
             "    del thing\n"
             "    return 0\n"
             "columns.run = run\n"
-            "sys.argv = ['gavyreto', 'columns']\n"
+            "sys.argv, number = ['gavyreto', 'columns'], int(sys.argv[1])\n"
         )
         installed = "from gavyreto.__main__ import main; main()"
         for begun in ("import runpy; runpy.run_module('gavyreto', run_name='__main__', alter_sys=True)", installed):
-            with self.subTest(begun=begun):
-                run = subprocess.run([sys.executable, "-c", program + begun], stderr=subprocess.PIPE, check=False, **started())
-                self.assertEqual((run.returncode, run.stderr.splitlines()[-1]), (130, b"interrupted"))
+            for number, line in (signal.SIGINT, b"interrupted"), (signal.SIGTERM, b"ended by SIGTERM"), (signal.SIGHUP, b"ended by SIGHUP"):
+                with self.subTest(begun=begun, line=line):
+                    words = [sys.executable, "-c", program + begun, str(int(number))]
+                    run = subprocess.run(words, stderr=subprocess.PIPE, check=False, **started())
+                    self.assertEqual((run.returncode, run.stderr.splitlines()[-1]), (128 + number, line))
 
 
 if __name__ == "__main__":

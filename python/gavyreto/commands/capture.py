@@ -24,10 +24,9 @@ import errno
 import os
 import signal
 import tempfile
-from collections.abc import Iterable, Iterator
+from collections.abc import Iterable
 from datetime import datetime, timedelta, timezone
-from types import FrameType
-from typing import NoReturn, Optional, cast
+from typing import Optional, cast
 
 from gavyreto import program, tds
 from gavyreto.adapting import Adapter
@@ -38,18 +37,13 @@ from gavyreto.capturing.desk import Answer, Sides
 from gavyreto.capturing.keeping import Kept, Room
 from gavyreto.capturing.messages import is_header
 from gavyreto.capturing.progress import Progress
-from gavyreto.commands.common import Stopped, add_options_of_program, checked_program, folder_of_texts, line, number_in, parser_of, put, say, tell
+from gavyreto.commands.common import SIGNALS, Stopped, add_options_of_program, checked_program, folder_of_texts, line, number_in, parser_of, put, say, tell
 from gavyreto.payload import Ended
-from gavyreto.program import BAD_INPUT, FAILED, OF_SIGNAL, REFUSED, SERVER_ERROR, Ending, judged
+from gavyreto.program import BAD_INPUT, FAILED, REFUSED, SERVER_ERROR, Ending, judged
 from gavyreto.tds import PacketType
 
 HEADER = ("text", "client", "server", "time", "statement", "status", "line")
-TERMINATED = OF_SIGNAL + signal.SIGTERM
 EPOCH = datetime(1970, 1, 1, tzinfo=timezone.utc)
-
-
-class Terminated(BaseException):
-    """SIGTERM came."""
 
 
 class Signals:
@@ -185,7 +179,7 @@ def capture(asked: argparse.Namespace) -> int:
         if left:
             raise Stopped(f"{asked.out} has texts, as {left[0]}: name a folder without them", REFUSED)
         # A signal waits while the folder is made, and while it is removed, so that it doesn't leave it there.
-        with Signals(signal.SIG_BLOCK, (signal.SIGINT, signal.SIGTERM)) as before, tempfile.TemporaryDirectory(
+        with Signals(signal.SIG_BLOCK, SIGNALS) as before, tempfile.TemporaryDirectory(
                 prefix="unfinished", dir=asked.out) as folder, Signals(signal.SIG_SETMASK, before), contextlib.ExitStack() as stack:
             command = program.command_of(asked.program, program.PACKET_SIZE, asked.column_room, program.MAX_WIRE, asked.charset)
             room = stack.enter_context(Room(folder, command, not asked.packets and not asked.adapt))
@@ -257,33 +251,11 @@ def arguments(words: list[str]) -> argparse.Namespace:
     return parser.parse_args(words)
 
 
-@contextlib.contextmanager
-def ending_by_signal() -> Iterator[None]:
-    """SIGTERM ends what is under way as Ctrl-C does. Where Python drops what that raises, it is raised at the end."""
-    came = False
-
-    def end(_: int, __: Optional[FrameType]) -> NoReturn:
-        nonlocal came
-        came = True
-        raise Terminated
-
-    before = signal.signal(signal.SIGTERM, end)
-    try:
-        yield
-    finally:
-        signal.signal(signal.SIGTERM, before)
-        if came:
-            raise Terminated
-
-
 def run(words: list[str]) -> int:
     """The command `capture`. Returns its exit status."""
     asked = arguments(words)
     asked.program = checked_program(asked.program)
     try:
-        with ending_by_signal():
-            return capture(asked)
+        return capture(asked)
     except files.CutShort as cut:
         raise Stopped(f"{asked.file}: {cut}", BAD_INPUT) from None
-    except Terminated:
-        raise Stopped("ended by SIGTERM", TERMINATED) from None

@@ -18,6 +18,7 @@ from gavyreto.payload import Ended
 from gavyreto.program import BAD_INPUT, FAILED, INTERRUPTED, NO_MEMORY, REFUSED, SERVER_ERROR
 
 STANDARD_INPUT, STANDARD_OUTPUT, STANDARD_ERROR = 0, 1, 2
+SIGNALS = (signal.SIGINT, signal.SIGTERM, signal.SIGHUP)  # which end a command, with a line and a status
 STREAMS = ("standard input", "standard output", "standard error")
 LONGEST_HEAD = 4096  # bytes by which a file is known
 MOST_LINKS = 40  # of a name, one after the other, as Linux follows
