@@ -4,7 +4,6 @@ from __future__ import annotations
 import io
 import os
 import socket
-import ssl
 import stat
 import threading
 from typing import Any, Callable, Optional, Protocol, Union, cast
@@ -25,6 +24,7 @@ class Readable(Protocol):
 
 
 Source = Union[str, "os.PathLike[str]", bytes, bytearray, memoryview, int, socket.socket, Readable]
+OF_DESCRIPTORS = (int, io.FileIO, socket.socket)  # read by their descriptors; a subclass, as ssl.SSLSocket, by its own method
 Copy = Callable[[Write], bool]  # whether all packets were there
 Tail = Callable[[], tds.Bytes]  # the end of the payload, once all of it was read
 
@@ -182,7 +182,7 @@ def export(
         return _of_path(source, command, dates)
     if isinstance(source, (bytes, bytearray, memoryview)):
         return _of_bytes(bytes(source), command, dates)
-    if isinstance(source, (int, io.FileIO, socket.socket)) and not isinstance(source, (bool, ssl.SSLSocket)):
+    if type(source) in OF_DESCRIPTORS:
         return _of_descriptor(_descriptor_of(source), command, dates)
     return _fed(_read_of(source), command, dates)
 
@@ -217,7 +217,7 @@ def _reading(source: Source) -> tuple[Read, Callable[[], object]]:
     """What reads a source, and what ends that."""
     if isinstance(source, (bytes, bytearray, memoryview)):
         return io.BytesIO(source).read, lambda: None
-    if isinstance(source, (int, io.FileIO, socket.socket)) and not isinstance(source, (bool, ssl.SSLSocket)):
+    if type(source) in OF_DESCRIPTORS:
         own = os.fdopen(os.dup(_descriptor_of(source)), "rb", buffering=0)
     elif isinstance(source, (str, os.PathLike)):
         own = open(source, "rb", buffering=0)
@@ -267,7 +267,7 @@ def _fed(read: Read, command: list[str], dates: Dates) -> Response:
     return Response(Program(command), dates, found, copy=copy, tail=lambda: tails[0]())
 
 
-def _descriptor_of(source: Union[int, io.FileIO, socket.socket]) -> int:
+def _descriptor_of(source: Any) -> int:
     """The descriptor of an open file or socket, which has to block. Raises ValueError or OSError if it is closed."""
     descriptor = source if isinstance(source, int) else source.fileno()
     if descriptor < 0:
@@ -279,7 +279,7 @@ def _descriptor_of(source: Union[int, io.FileIO, socket.socket]) -> int:
 
 def _read_of(source: Any) -> Callable[[int], bytes]:
     """The method that reads from an object. Raises TypeError if it has none, or reads text, and ValueError if it is closed."""
-    read = source.recv if isinstance(source, ssl.SSLSocket) else getattr(source, "read", None)
+    read = source.recv if isinstance(source, socket.socket) else getattr(source, "read", None)
     if not callable(read) or isinstance(source, io.TextIOBase):
         raise TypeError(f"a path, bytes, or an open binary file, socket or descriptor is needed, not {type(source).__name__}")
     if getattr(source, "closed", False):
@@ -297,6 +297,8 @@ def _guarded(read: Callable[[int], Optional[bytes]]) -> Read:
             raise ReadFailed(failure) from None
         if data is None:
             raise ReadFailed(BlockingIOError("the source doesn't block"))
+        if len(data) > most:
+            raise ReadFailed(OSError(f"the source gave {len(data)} bytes, and {most} were asked for"))
         return data
 
     return reads

@@ -19,6 +19,7 @@ from types import SimpleNamespace
 from typing import Any, Optional
 
 import gavyreto
+from gavyreto import tds
 from gavyreto.program import report_of
 from tests.beside import PROGRAM, answered, is_waiting, responses, served, wait_for, wire
 
@@ -253,6 +254,26 @@ class Sources(unittest.TestCase):
                     with self.subTest(place=place, adapt=adapt), self.assertRaises(type(failure) if failure else BlockingIOError):
                         all_of(export(source, adapt=adapt))
                     self.assertEqual(data.tell(), place)
+
+    def test_a_read_that_gives_more_than_it_is_asked_for(self) -> None:
+        """What is behind the response would be lost, and an answer that was cancelled be taken for a whole one."""
+        for data in (answered(served.done(tds.CANCELLED)), wire("sets") + wire("orders")):
+            for adapt in (False, True):
+                source: Any = SimpleNamespace(read=lambda _, pieces=[data]: pieces.pop() if pieces else b"")
+                with self.assertRaisesRegex(OSError, f"^the source gave {len(data)} bytes, and 8 were asked for$"):
+                    all_of(export(source, adapt=adapt))
+
+    def test_a_file_with_a_read_of_its_own(self) -> None:
+        class Turned(io.FileIO):
+            def read(self, size: Optional[int] = -1) -> bytes:
+                return bytes(255 - byte for byte in super().read(size))
+
+        with tempfile.NamedTemporaryFile() as file:
+            file.write(bytes(255 - byte for byte in wire("sets")))
+            file.flush()
+            for adapt in (False, True):
+                with Turned(file.name) as source:
+                    self.assertEqual(all_of(export(source, adapt=adapt)), SETS)
 
     def test_a_socket_is_read_up_to_the_response_and_no_further(self) -> None:
         ours, theirs = socket.socketpair()
