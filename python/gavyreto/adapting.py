@@ -39,7 +39,7 @@ def _float(payload: Payload, type_: Type) -> Iterator[bytes]:
     if length == 0:
         yield floats.NULL_VALUE
         return
-    if type_.byte == DataType.FLTN and (length != type_.length or length not in (4, 8)):
+    if type_.byte == DataType.FLTN and length != type_.length:
         raise ValueError(f"a float of {length} bytes in a column of {type_.length}")
     text = TEXTS[DataType.FLT8 if length == 8 else DataType.FLT4](payload.need(length), 0).encode()
     yield struct.pack("<H", len(text)) + text
@@ -99,7 +99,9 @@ def windows_1252(data: bytes) -> str:
 
 
 def adapted(type_: Type, charset: str) -> Optional[Adapted]:
-    """What takes the place of a type, or None if it stays."""
+    """What takes the place of a type, or None if it stays. Raises ValueError for a float of another length than such have."""
+    if type_.byte == DataType.FLTN and type_.length not in (4, 8):
+        raise ValueError(f"a column of floats of {type_.length} bytes")
     if type_.byte in floats.FLOATS:
         return Adapted(struct.pack("<BH", DataType.VARCHAR, TEXT_OF_FLOAT) + COLLATION, _float)
     if type_.byte == DataType.TEXT:

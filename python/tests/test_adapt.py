@@ -157,6 +157,7 @@ class Adapted(unittest.TestCase):
             [b"\x99"], [b"\xD1"], [b"\x81\x01\0" + bytes(6) + b"\x99"], [responses.description([column]), b"\xD1\x08" + b"\xFF" * 8],
             [responses.description([variant]), responses.row([variant], [b"\x99\0"])], [responses.description([variant]), responses.row([variant], [b"\x28\0\xFF\xFF\xFF"])],
             [responses.description([variant]), responses.row([variant], [b"\x29\x01\x00\xFF\xFF\xFF"])],
+            *([responses.description([responses.Column("x", f"6D{length:02x}", responses.short, responses.as_it_is, bytes)])] for length in (0, 2, 24)),
         ):
             with self.subTest(pieces=pieces), self.assertRaises(ValueError):
                 adapted(answered(*pieces, served.done()))

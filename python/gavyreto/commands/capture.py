@@ -116,7 +116,7 @@ class Export:
     def _adapt(self, packets: str) -> None:
         """Rewrites columns that the program refuses. What can't be followed stays as it is, and the program says why."""
         adapted = packets + ".adapted"
-        with contextlib.suppress(ValueError, KeyError, Ended):
+        with contextlib.suppress(ValueError, Ended):
             with open(packets, "rb") as source, open(adapted, "wb") as target:
                 Adapter(source.read, target.write, self._asked.charset).run()
             os.replace(adapted, packets)
