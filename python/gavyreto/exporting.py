@@ -16,6 +16,7 @@ from gavyreto.outcomes import waiting_in
 from gavyreto.program import BAD_INPUT, BLOCK, DONE, FAILED, SERVER_ERROR, Output, OutputFailed, Program
 
 DIGITS = 16  # of the digest of a program that are kept
+MORE = "more is behind the response, which isn't read: gavyreto capture reads all that a server sent"
 
 
 class Stamp(NamedTuple):
@@ -71,11 +72,13 @@ def _exported(file: str, waiting: str, command: list[str], adapts: Optional[str]
         found = os.fstat(source)
         if not stat.S_ISREG(found.st_mode):
             return Outcome(file, FAILED, f"cannot read {file}: no regular file")
-        ending, written, framing = _text_of(source, waiting, running(command), adapts)
+        ending, written, framing, left = _text_of(source, waiting, running(command), adapts)
         if ending.status not in (DONE, SERVER_ERROR, BAD_INPUT):
             return Outcome(file, ending.status, ending.line)
         if stamp_of(os.fstat(source)) != stamp_of(found):
             return Outcome(file, FAILED, f"{file}: it changed while it was read")
+        if ending.status != BAD_INPUT and left:
+            ending = ending._replace(status=BAD_INPUT, line=f"{ending.line}; {MORE}")
         unfinished = tds.unfinished(framing.tail) if ending.status == DONE else None
         status, line = (SERVER_ERROR, unfinished) if unfinished else (ending.status, ending.line)
         return Outcome(file, status, line, waiting, written, stamp_of(found), version_of(command[0]))
@@ -83,13 +86,16 @@ def _exported(file: str, waiting: str, command: list[str], adapts: Optional[str]
         os.close(source)
 
 
-def _text_of(source: int, waiting: str, run: Program, adapts: Optional[str]) -> tuple[program.Ending, int, tds.Framing]:
-    """How the program ends on the response at the beginning of a file, and the bytes of its text, which is on the disk."""
+def _text_of(source: int, waiting: str, run: Program, adapts: Optional[str]) -> tuple[program.Ending, int, tds.Framing, bool]:
+    """How the program ends on the response at the beginning of a file, the bytes of its text, which is on the disk, and whether the file
+    goes on behind it."""
     framing = tds.Framing()
 
     def following() -> bytes:
         block = os.read(source, BLOCK) if run.is_reading and not framing.is_over else b""
-        return block[:framing.take(block)]
+        taken = framing.take(block)
+        os.lseek(source, taken - len(block), os.SEEK_CUR)
+        return block[:taken]
 
     with open(waiting, "xb") as out:
         output = Output(out.fileno())
@@ -105,7 +111,7 @@ def _text_of(source: int, waiting: str, run: Program, adapts: Optional[str]) -> 
         os.fsync(out.fileno())
         if wrong and ending.status in (DONE, SERVER_ERROR, BAD_INPUT):
             ending = ending._replace(status=BAD_INPUT, line=ending.line_after(wrong))
-        return ending, os.fstat(out.fileno()).st_size, framing
+        return ending, os.fstat(out.fileno()).st_size, framing, bool(os.read(source, 1))
 
 
 # The programs, one a thread.

@@ -289,6 +289,9 @@ class Commands(Live):
         self.assertEqual(exported(self.text("out"))[0], 0)
         for words, status in ((["nothere"], 5), (["-o", "none/out", "float.tds"], 5), (["--charset", "latin1"], 2), (["."], 5)):
             self.assertEqual(self.run_command("adapt", *words).returncode, status)
+        self.assertEqual(exported(self.run_command("adapt", data=wire("float") + wire("sets") + wire("float")).stdout, "--all"), (
+            0, exported(wire("sets"))[1].join([b'"id","ratio"\r\n1,NULL\r\n'] * 2)))
+        self.assertEqual(self.run_command("adapt", data=wire("sets") + b"\4").returncode, 4)
         for data, line in ((wire("float")[:40], "the response ends before its last packet\n"), (answered(b"\x99"), "the response can't be followed: no token of an answer to a statement: 0x99\n")):
             came = self.run_command("adapt", data=data)
             self.assertEqual((came.returncode, came.stderr.decode()), (4, line))
@@ -344,6 +347,8 @@ class Commands(Live):
         self.assertEqual(came.stdout.decode(), (
             '"set","name","type","length","precision","scale","nullable"\r\n1,"id","int",NULL,NULL,NULL,0\r\n'
             '1,"note","nvarchar(40)",40,NULL,NULL,1\r\n2,"total","decimal(9,2)",NULL,9,2,1\r\n3,"id","int",NULL,NULL,NULL,0\r\n'))
+        both = self.run_command("columns", data=wire("sets") + wire("float"))
+        self.assertEqual(both.stdout, came.stdout + b'4,"id","int",NULL,NULL,NULL,0\r\n4,"ratio","float",NULL,NULL,NULL,1\r\n')
         came = self.run_command("columns", "--as", "postgresql", "--table", 'a"b{}', "sets.tds")
         self.assertTrue(came.stdout.startswith(b'CREATE TABLE "a""b1" (\n    "id" integer NOT NULL,\n    "note" text\n);\nCREATE TABLE'))
         cases: list[tuple[list[str], bytes, int]] = [

@@ -3,6 +3,7 @@ from __future__ import annotations
 
 import contextlib
 import csv
+import filecmp
 import io
 import os
 import shutil
@@ -397,6 +398,17 @@ class Here(Many):
         self.store(0, cancelled=answered(*list(responses.order_rows(0)), served.done(tds.CANCELLED)))
         self.assertEqual(self.many("--program", PROGRAM, "in", "out"), (3, "1 responses: 0 done, 1 with an error of the server, 0 refused, 0 failed"))
         self.assertEqual(self.table(), [("cancelled", 3, "the answer isn't whole: it was cancelled, DONE 0x0020")])
+
+    def test_what_is_behind_a_response(self) -> None:
+        """Whatever it is, and wherever the blocks end in which the file is read: the text has one response, and isn't all of the file."""
+        more = "more is behind the response, which isn't read: gavyreto capture reads all that a server sent"
+        long = wire("kinds", 4000)  # of several blocks
+        self.store(0, one=KINDS + KINDS, two=KINDS + b"\0", three=long + b"\4", failed=wire("broken", 3) + KINDS, whole=KINDS)
+        for words in ([], ["--adapt"]):
+            self.assertEqual(self.many("--program", PROGRAM, *words, "in", "out"), (4, "5 responses: 1 done, 0 with an error of the server, 4 refused, 0 failed"))
+            self.assertEqual([(name, status, line.endswith(f"; {more}")) for name, status, line in self.table()], [
+                ("failed", 4, True), ("one", 4, True), ("three", 4, True), ("two", 4, True), ("whole", 0, False)])
+            self.assertTrue(filecmp.cmp(self.path("out", "one.csv.partial"), self.path("out", "whole.csv"), shallow=False))
 
     def test_two_commands_do_not_share_a_folder(self) -> None:
         self.store(2)

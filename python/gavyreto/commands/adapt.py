@@ -1,4 +1,4 @@
-"""Rewrites a recorded response whose columns tds_replay refuses, with types that it reads.
+"""Rewrites a recorded response whose columns tds_replay refuses, with types that it reads; and those behind it, one after the other.
 
 float and real become varchar, with the shortest text that reads back to the same bits; xml and ntext become nvarchar(max), text
 becomes varchar(max), image and CLR types varbinary(max), and sql_variant nvarchar(max), with the text of its base type. Everything
@@ -45,7 +45,10 @@ def adapt(asked: argparse.Namespace) -> None:
             except OSError as failure:
                 raise Stopped(f"{name}: {cause_of(failure)}", FAILED) from None
 
-        Adapter(source.read, write, asked.charset).run()
+        is_more = True
+        while is_more:
+            Adapter(source.read, write, asked.charset).run()
+            is_more = bool(source.peek(1))
 
 
 def run(words: list[str]) -> int:

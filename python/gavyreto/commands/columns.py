@@ -1,4 +1,4 @@
-"""Prints the columns of a recorded response: as CSV, or as statements that create tables for its rows.
+"""Prints the columns of a recorded response, and of those behind it: as CSV, or as statements that create tables for the rows.
 
 The CSV has a line for each column of each result set: name, type as SQL writes it, length, precision, scale, and whether NULL is
 allowed. With --as sqlite or --as postgresql each set gives a CREATE TABLE whose columns hold everything that `gavyreto.export`
@@ -9,7 +9,7 @@ the names of the columns don't make a table."""
 from __future__ import annotations
 
 import argparse
-from typing import IO
+from io import BufferedReader
 
 from gavyreto.columns import TABLES, Column, create_table
 from gavyreto.commands.common import STANDARD_OUTPUT, Stopped, line, needed, open_response, parser_of, put
@@ -42,8 +42,14 @@ def as_tables(sets: list[list[Column]], asked: argparse.Namespace) -> str:
     return "".join(create_table(table.replace("{}", str(number)), columns, TABLES[asked.form]) for number, columns in enumerate(sets, 1))
 
 
-def sets_of(file: IO[bytes]) -> list[list[Column]]:
-    return [[column.column() for column in described] for described in descriptions(Payload(file.read))]
+def sets_of(file: BufferedReader) -> list[list[Column]]:
+    """The sets of a response, and of those behind it."""
+    sets: list[list[Column]] = []
+    is_more = True
+    while is_more:
+        sets += [[column.column() for column in described] for described in descriptions(Payload(file.read))]
+        is_more = bool(file.peek(1))
+    return sets
 
 
 def run(words: list[str]) -> int:

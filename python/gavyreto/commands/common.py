@@ -10,7 +10,8 @@ import signal
 import stat
 import sys
 import textwrap
-from typing import IO, Any, Callable, Iterable, Iterator, Optional, Union
+from io import BufferedReader
+from typing import Any, Callable, Iterable, Iterator, Optional, Union
 
 from gavyreto import program, tds
 from gavyreto.errors import BadAnswer, ConnectionFailed, ServerError, escaped
@@ -159,7 +160,7 @@ def opened_by(path: str) -> Optional[int]:
     return None
 
 
-def open_response(name: str) -> IO[bytes]:
+def open_response(name: str) -> BufferedReader:
     """A recorded response, or standard input if its name is "-". Raises `Stopped` if it can't be read, or is something else."""
     shown = STREAMS[STANDARD_INPUT] if name == "-" else name
     try:

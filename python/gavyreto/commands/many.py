@@ -1,7 +1,7 @@
 """Exports many responses, several at once: on this machine, or on the workers of a Dask cluster.
 
-The text of FILE is FILE.csv in the folder OUT, and gets this name when it is whole; a response that is refused leaves
-FILE.csv.partial. A folder stands for the files in it. The table OUT/outcomes.csv gets a line for each response as it ends: its
+The text of FILE is FILE.csv in the folder OUT, and gets this name when it is whole; a response that is refused, or has more behind
+it, leaves FILE.csv.partial. A folder stands for the files in it. The table OUT/outcomes.csv gets a line for each response as it ends: its
 file, the status and first line of tds_replay, then its text, the bytes of the text, the size, times and inode of the file, the
 options, and the program's version and digest. A command that was stopped can be run again: it skips each response whose line and text are
 there, if file, options and program are those of the line.
