@@ -130,12 +130,14 @@ class Cursor:
         """Asks, with the options of `Connection.query`. Parameters aren't filled in: they raise NotSupportedError."""
         if parameters:
             raise NotSupportedError("parameters aren't filled in: the statement has to have its values")
+        self._answer = self._set = None  # a statement that fails has none
         self._answer = self.connection.query(statement, **options)
-        self._set = next(self._answer, None)
+        self.nextset()
         return self
 
     def nextset(self) -> Optional[bool]:
         """Goes to the next set. None if there is none."""
+        self._set = None
         self._set = next(self._answer, None) if self._answer else None
         return True if self._set else None
 

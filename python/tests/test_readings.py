@@ -50,13 +50,14 @@ def interrupted(at: int, call: Callable[[], object]) -> bool:
         return step
 
     before = sys.gettrace()
-    sys.settrace(step)
-    try:
-        call()
-    except (KeyboardInterrupt, gavyreto.Interrupted):
-        pass  # Python drops the first where a generator ends that is left
-    finally:
-        sys.settrace(before)
+    with mock.patch.object(sys, "unraisablehook"):  # Python drops an exception where a generator ends that is left
+        sys.settrace(step)
+        try:
+            call()
+        except (KeyboardInterrupt, gavyreto.Interrupted):
+            pass
+        finally:
+            sys.settrace(before)
     return steps >= at
 
 
@@ -415,6 +416,20 @@ class DatabaseApi(Live):
                 cursor.close()
             connection.close()
         self.assertEqual((gavyreto.apilevel, gavyreto.threadsafety), ("2.0", 1))
+
+    def test_a_cursor_whose_statement_fails(self) -> None:
+        """It has no set, and not that of the statement before, or the set before."""
+        failed = answered(*responses.order_rows(0), served.done(tds.MORE), served.server_error(1, "no", 1), served.done(tds.FAILED))
+        for answers in ([ORDERED, wire("float")], [failed]):
+            with serving(*answers) as port, connected(port) as connection:
+                cursor = connection.cursor().execute("x", program=PROGRAM)
+                self.assertEqual(len(cursor.fetchmany(3)), 3)
+                with self.assertRaises(gavyreto.Error):
+                    cursor.nextset()
+                    cursor.execute("x", program=PROGRAM)
+                self.assertIsNone(cursor.description)
+                with self.assertRaises(gavyreto.ProgrammingError):
+                    cursor.fetchone()
 
 
 if __name__ == "__main__":
