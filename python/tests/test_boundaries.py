@@ -210,9 +210,10 @@ class Descriptors(Live):
 
     def test_other_commands(self) -> None:
         for words, line in (("columns orders.tds >&-", "standard output is closed"), ("columns <&-", "standard input is closed"),
-                            ("adapt <&-", "standard input is closed"), ("adapt orders.tds >&-", "standard output is closed")):
+                            ("adapt <&-", "standard input is closed"), ("adapt orders.tds >&-", "standard output is closed"),
+                            ('capture --program "$PROGRAM" - out <&-', "standard input is closed")):
             command = f"exec {sys.executable} -m gavyreto {words}"
-            came = subprocess.run(["sh", "-c", command], cwd=self.folder, capture_output=True, check=False, **started())
+            came = subprocess.run(["sh", "-c", command], cwd=self.folder, capture_output=True, check=False, **started(PROGRAM=PROGRAM))
             with self.subTest(words=words):
                 self.assert_ends(came, 5, b"", line)
         for words in ("columns orders.tds > /dev/full", "--help > /dev/full", "--version > /dev/full"):

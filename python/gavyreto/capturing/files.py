@@ -254,10 +254,3 @@ def _whole(data: bytes, captured: int) -> bytes:
     if len(data) < captured:
         raise IndexError
     return data
-
-
-def opened(path: str) -> IO[bytes]:
-    """A file by its name, or standard input."""
-    return open(0 if path == "-" else path, "rb", buffering=0, closefd=path != "-")
-
-
