@@ -61,10 +61,23 @@ for place, column in enumerate(described):
         assert [None if pandas.isna(it) else it for it in frame.iloc[:, place]] == same, (column, values)
 print(sorted({str(kind) for kind in frame.dtypes}))
 """
-# Rows before an error are left as they were, floats of four bytes too.
+# Rows before an error are left as they were, floats of four bytes too, also one of what is made of them; after an interrupt none is.
 LEFT = """
-import gavyreto
+import gavyreto, pandas, sys
+from unittest import mock
 from tests import beside
+for failure, wanted in (ValueError, [1, 2, 3]), (KeyboardInterrupt, None):
+    rows = gavyreto.export(beside.wire("orders"), program=beside.PROGRAM).only()
+    with mock.patch.dict(sys.modules, pyarrow=mock.Mock()) as modules:
+        modules["pyarrow"].Table.from_pandas.side_effect = failure
+        try:
+            rows.arrow()
+        except failure as raised:
+            print(type(raised).__name__)
+    try:
+        assert list(rows.frame()["id"]) == wanted
+    except gavyreto.Interrupted:
+        assert not wanted
 kept = [*beside.responses.refused(0)][:-1]
 failed = beside.answered(*kept, beside.served.server_error(8134, "no", 1), beside.served.done(2))
 for options in ({}, {"dates": True}):
@@ -132,7 +145,7 @@ class Frames(unittest.TestCase):
             skip(self, "Python's module pandas isn't there: `make needs` installs it")
         command = [requirements.DEBIAN_PYTHON, "-B", "-c", LEFT]
         came = subprocess.run(command, cwd=os.path.join(ROOT, "python"), capture_output=True, text=True, check=False, **started(PROGRAM=PROGRAM))
-        self.assertEqual((came.returncode, came.stderr, came.stdout), (0, "", "8134 1\n" * 2))
+        self.assertEqual((came.returncode, came.stderr, came.stdout), (0, "", "ValueError\nKeyboardInterrupt\n" + "8134 1\n" * 2))
 
     def test_frames_of_answers(self) -> None:
         """By the cursor that `pandas.read_sql` takes, and of rows before an error."""
