@@ -269,7 +269,7 @@ def _fed(read: Read, command: list[str], dates: Dates) -> Response:
 
 def _descriptor_of(source: Any) -> int:
     """The descriptor of an open file or socket, which has to block. Raises ValueError or OSError if it is closed."""
-    descriptor = source if isinstance(source, int) else source.fileno()
+    descriptor: int = source if isinstance(source, int) else source.fileno()
     if descriptor < 0:
         raise ValueError("the source is closed")
     if not os.get_blocking(descriptor):

@@ -7,6 +7,7 @@ import re
 import sys
 import threading
 import weakref
+from functools import partial
 from itertools import chain, islice, repeat
 from operator import length_hint
 from typing import Any, Callable, Iterator, NamedTuple, NoReturn, Optional, Protocol, Sequence, TypeVar, Union, cast
@@ -220,7 +221,7 @@ class Opened(io.IOBase):
 
     def read(self, size: Optional[int] = -1) -> Any:
         """So much, or less at the end; all of it without a size."""
-        return self._sets._guarded(lambda: self._much(sys.maxsize if size is None or size < 0 else size))
+        return self._sets._guarded(partial(self._much, sys.maxsize if size is None or size < 0 else size))
 
     def _much(self, most: int) -> Any:
         taken = []
@@ -415,7 +416,8 @@ class ResultSet:
         if isinstance(field, Held):
             self._sets._close_row(place, iter(()))
             return _file_of(field.value)
-        file = ValueFile(self._sets, place, field) if field.shape is BINARY else TextFile(self._sets, place, field)
+        kind: type[Union[ValueFile, TextFile]] = ValueFile if field.shape is BINARY else TextFile
+        file = kind(self._sets, place, field)
         self._sets._opened = weakref.ref(file)
         return file
 

@@ -404,8 +404,8 @@ class Here(Many):
         more = "more is behind the response, which isn't read: gavyreto capture reads all that a server sent"
         long = wire("kinds", 4000)  # of several blocks
         self.store(0, one=KINDS + KINDS, two=KINDS + b"\0", three=long + b"\4", failed=wire("broken", 3) + KINDS, whole=KINDS)
-        for words in ([], ["--adapt"]):
-            self.assertEqual(self.many("--program", PROGRAM, *words, "in", "out"), (4, "5 responses: 1 done, 0 with an error of the server, 4 refused, 0 failed"))
+        for word in ("--jobs=1", "--adapt"):
+            self.assertEqual(self.many("--program", PROGRAM, word, "in", "out"), (4, "5 responses: 1 done, 0 with an error of the server, 4 refused, 0 failed"))
             self.assertEqual([(name, status, line.endswith(f"; {more}")) for name, status, line in self.table()], [
                 ("failed", 4, True), ("one", 4, True), ("three", 4, True), ("two", 4, True), ("whole", 0, False)])
             self.assertTrue(filecmp.cmp(self.path("out", "one.csv.partial"), self.path("out", "whole.csv"), shallow=False))

@@ -143,7 +143,7 @@ class Rows(unittest.TestCase):
     def test_an_interrupt_at_any_line(self) -> None:
         """Of a call that has taken rows, up to its return: they were handed out, or the reading has failed."""
         calls: list[Callable[[Any], list[Any]]] = [
-            lambda rows: [row for row in [rows.fetchone()] if row], lambda rows: rows.fetchmany(3), lambda rows: list(islice(rows, 1)),
+            lambda rows: [row for row in [rows.fetchone()] if row], lambda rows: [*rows.fetchmany(3)], lambda rows: list(islice(rows, 1)),
             lambda rows: list(zip(*next(rows.batches(3), [])))]
         for call in calls:
             at = 1
@@ -173,7 +173,7 @@ class Rows(unittest.TestCase):
         for value, data in ("x" * 300, b'"%s"' % (b"x" * 300)), (b"\xAB" * 300, b"0x" + b"ab" * 300):
             at, is_interrupted = 1, True
             while is_interrupted:
-                with text_of(b'"a"\r\n' + data + b"\r\n", 50).only().open() as file:  # type: ignore[union-attr]
+                with cast(Any, text_of(b'"a"\r\n' + data + b"\r\n", 50).only().open()) as file:
                     found = list[Any]()
                     is_interrupted = interrupted(at, lambda: found.append(file.read()))
                     with contextlib.suppress(gavyreto.Interrupted):

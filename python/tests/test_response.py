@@ -265,7 +265,7 @@ class Sources(unittest.TestCase):
 
     def test_a_file_with_a_read_of_its_own(self) -> None:
         class Turned(io.FileIO):
-            def read(self, size: Optional[int] = -1) -> bytes:
+            def read(self, size: int = -1) -> bytes:
                 return bytes(255 - byte for byte in super().read(size))
 
         with tempfile.NamedTemporaryFile() as file:

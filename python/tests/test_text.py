@@ -1,7 +1,6 @@
 """Tests of reading texts: values, rows, sets, and texts that are none."""
 from __future__ import annotations
 
-import contextlib
 import resource
 import subprocess
 import sys
@@ -153,8 +152,10 @@ class ByColumns(unittest.TestCase):
                     next(rows)
                     with self.assertRaises(kind):
                         rows.open()
-                    with self.assertRaises(gavyreto.MalformedText) if kind is not ValueError or "-" in first else contextlib.nullcontext():
+                    if kind is ValueError and first == "1":
                         self.assertEqual(rows.fetchall(), [(3,)])
+                    else:
+                        self.assertRaises(gavyreto.MalformedText, rows.fetchall)
 
     def test_nothing_is_read_past_a_value_that_is_open(self) -> None:
         for text, kind in (('"a","b"\r\n"' + "x" * 3_000_000 + '",1\r\n"y",2\r\n\r\n"c"\r\n', str), ('"a","b"\r\n0x' + "ab" * 3_000_000 + ',1\r\n0x00,2\r\n', bytes)):

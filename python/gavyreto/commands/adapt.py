@@ -26,16 +26,15 @@ def arguments(words: list[str]) -> argparse.Namespace:
 
 
 def adapt(asked: argparse.Namespace) -> None:
-    out = asked.output or needed(STANDARD_OUTPUT)
+    opened = opened_by(asked.output) if asked.output else needed(STANDARD_OUTPUT)
     name = asked.output or STREAMS[STANDARD_OUTPUT]
     if not asked.output and os.isatty(STANDARD_OUTPUT):
         raise Stopped(f"{name} is a terminal, and packets aren't text: > FILE or -o FILE takes them", REFUSED)
     with open_response(asked.file) as source:
-        if is_one_file(out, source.fileno()):
+        if is_one_file(asked.output or STANDARD_OUTPUT, source.fileno()):
             raise Stopped(f"{name}: the response is read from it", REFUSED)
         try:
-            opened = out if isinstance(out, int) else opened_by(out)
-            target = os.open(out, os.O_WRONLY | os.O_CREAT | os.O_TRUNC, 0o666) if opened is None else opened
+            target = os.open(asked.output, os.O_WRONLY | os.O_CREAT | os.O_TRUNC, 0o666) if opened is None else opened
         except OSError as failure:
             raise Stopped(f"{name}: {cause_of(failure)}", FAILED) from None
 
