@@ -230,12 +230,13 @@ class Program:
         self._lines, self._taken, self._handed, self._said, self.ending = "", 0, 0, None, None
 
     def _start(self) -> None:
-        """Starts it in a session of its own, so that Ctrl-C doesn't end it before it has written what came."""
+        """Starts it in a session of its own, so that Ctrl-C doesn't end it before it has written what came. It is there once all of it is
+        known: an interrupt leaves none that is known in part."""
         words = self.command if self._source is not None else [*self.command[:2], "--all", *self.command[2:]]
         process = subprocess.Popen(
             words, bufsize=0, stdin=subprocess.PIPE if self._source is None else self._source, stdout=subprocess.PIPE, stderr=subprocess.PIPE,
             start_new_session=True)
-        self._process, self._pipe, self.is_reading = process, process.stdin, process.stdin is not None
+        self._pipe, self.is_reading = process.stdin, process.stdin is not None
         self._text, self._notes = (cast("IO[bytes]", it).fileno() for it in (process.stdout, process.stderr))
         self._open = {self._text, self._notes}
         if self._pipe:
@@ -244,6 +245,7 @@ class Program:
         for pipe in (process.stdin, process.stdout):
             if pipe:
                 widen(pipe)
+        self._process = process
 
     def _is_under_way(self) -> bool:
         return self.ending is None and (self._handed > 0 or self._source is not None)

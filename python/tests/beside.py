@@ -18,6 +18,7 @@ import time
 import unittest
 from collections.abc import Callable, Iterator
 from typing import IO, Any, cast
+from unittest import mock
 
 ROOT = os.path.dirname(os.path.dirname(os.path.dirname(os.path.abspath(__file__))))
 PROGRAM = os.path.abspath(os.environ.get("PROGRAM", os.path.join(ROOT, "bin", "tds_replay")))
@@ -28,6 +29,7 @@ from lib import certificates, packing, sample_responses, served as served  # noq
 
 from gavyreto import tds  # noqa: E402
 from gavyreto.connection import Channel  # noqa: E402
+from gavyreto.errors import Interrupted  # noqa: E402
 
 responses = sample_responses  # by the names that tests call them
 certificate_in, context_of = certificates.certificate_in, certificates.context_of
@@ -98,6 +100,31 @@ def running_in(folder: str) -> list[str]:
         with contextlib.suppress(OSError):  # it has ended, or is another user's
             found += [link] * os.path.samefile(link, folder)
     return found
+
+
+def interrupted(at: int, call: Callable[[], object]) -> bool:
+    """Makes a call, to which an interrupt comes at a line of the package, by its number, if there are so many. Returns whether one came."""
+    steps = 0
+
+    def step(frame: Any, event: str, _: object) -> Any:
+        nonlocal steps
+        if event == "return" or f"{os.sep}gavyreto{os.sep}" not in frame.f_code.co_filename:
+            return step
+        steps += 1
+        if steps == at:
+            raise KeyboardInterrupt
+        return step
+
+    before = sys.gettrace()
+    with mock.patch.object(sys, "unraisablehook"):  # Python drops an exception where a generator ends that is left
+        sys.settrace(step)
+        try:
+            call()
+        except (KeyboardInterrupt, Interrupted):
+            pass
+        finally:
+            sys.settrace(before)
+    return steps >= at
 
 
 class StandIn:

@@ -14,7 +14,7 @@ from unittest import mock
 from gavyreto import program, tds
 from gavyreto.errors import Fault, Report, ServerError
 from gavyreto.program import BAD_INPUT, DONE, SERVER_ERROR, Ending, Output, OutputFailed, Program, command_of
-from tests.beside import ORDERS, PROGRAM, SECONDS, answered, responses, served, wait_for, wire
+from tests.beside import ORDERS, PROGRAM, SECONDS, answered, interrupted, responses, served, wait_for, wire
 
 ORDERED = answered(*responses.order_rows(0), served.done())
 WITHOUT = answered(served.done())
@@ -98,6 +98,16 @@ class Runs(unittest.TestCase):
         closing.join(SECONDS)
         self.assertFalse(closing.is_alive())
         self.assertEqual(process.returncode, -signal.SIGKILL)
+
+    def test_an_interrupt_while_it_starts(self) -> None:
+        """At whatever line: the next response is read by one that is started anew, or by this one."""
+        at, is_interrupted = 1, True
+        while is_interrupted:
+            with Program(command()) as run:
+                is_interrupted = interrupted(at, run.begin)
+                self.assertEqual(ended(run, ORDERED)[1], ORDERS)
+            at += 1
+        self.assertGreater(at, 20)
 
     def test_a_response_that_is_left(self) -> None:
         """What was handed over of one doesn't count for the next."""

@@ -6,7 +6,6 @@ import io
 import os
 import random
 import socket
-import sys
 import threading
 import time
 import traceback
@@ -20,7 +19,7 @@ import gavyreto
 from gavyreto import tds
 from gavyreto.connection import Channel
 from gavyreto.text import Sets
-from tests.beside import PROGRAM, SECONDS, Live, answered, context_of, listening, log_in, log_in_encrypted, responses, saying_goodbye, served, serving, wire
+from tests.beside import PROGRAM, SECONDS, Live, answered, context_of, interrupted, listening, log_in, log_in_encrypted, responses, saying_goodbye, served, serving, wire
 
 ORDERED = answered(*responses.order_rows(0), served.done())
 UNASKED = "the server sent bytes that weren't asked for"
@@ -34,31 +33,6 @@ def connected(port: int, **options: Any) -> gavyreto.Connection:
 def text_of(data: bytes, step: int = 1 << 16) -> Sets:
     source = io.BytesIO(data)
     return Sets(lambda most: source.read(min(most, step)), False)
-
-
-def interrupted(at: int, call: Callable[[], object]) -> bool:
-    """Makes a call, to which an interrupt comes at a line of the package, by its number, if there are so many. Returns whether one came."""
-    steps = 0
-
-    def step(frame: Any, event: str, _: object) -> Any:
-        nonlocal steps
-        if event == "return" or f"{os.sep}gavyreto{os.sep}" not in frame.f_code.co_filename:
-            return step
-        steps += 1
-        if steps == at:
-            raise KeyboardInterrupt
-        return step
-
-    before = sys.gettrace()
-    with mock.patch.object(sys, "unraisablehook"):  # Python drops an exception where a generator ends that is left
-        sys.settrace(step)
-        try:
-            call()
-        except (KeyboardInterrupt, gavyreto.Interrupted):
-            pass
-        finally:
-            sys.settrace(before)
-    return steps >= at
 
 
 class Rows(unittest.TestCase):
