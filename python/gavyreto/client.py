@@ -3,10 +3,9 @@ from __future__ import annotations
 
 import io
 import threading
-from itertools import chain
 from typing import Any, Iterator, Optional, cast
 
-from gavyreto.adapting import Adapter, Blocks as Pieces
+from gavyreto.adapting import Adapter, Blocks
 from gavyreto.connection import ENCRYPT, LOGIN_SECONDS, SECONDS, Secret, Session, log_in_to
 from gavyreto.errors import Error, NotSupportedError, ProgrammingError
 from gavyreto.payload import Descriptions, LateDescriptions, Payload, Write
@@ -170,28 +169,6 @@ class Cursor:
         """Nothing: values have room as they come."""
 
 
-class Blocks:
-    """An answer in blocks. Each is handed on only after it was parsed here, so the parser never lags behind the program."""
-
-    def __init__(self, session: Session, write: Write, first: bytes) -> None:
-        self._session, self._write = session, write
-        self._block, self._at = first, 0
-
-    def read(self, most: int) -> bytes:
-        if self._at == len(self._block):
-            self._write(self._block)
-            self._block, self._at = self._session.next(), 0
-        data = self._block[self._at:self._at + most]
-        self._at += len(data)
-        return data
-
-    def finish(self) -> None:
-        """Hands on the rest."""
-        while self._block:
-            self._write(self._block)
-            self._block = self._session.next()
-
-
 class Answer(Response):
     """The result sets of a server's answer, while it comes."""
 
@@ -221,13 +198,21 @@ class Answer(Response):
 
     def _hand_on(self, write: Write, found: Descriptions, first: bytes) -> bool:
         """Hands the answer to the program, and notes the descriptions that may be asked for. Returns whether it was whole."""
+        blocks = self._blocks(first, write if self._charset is None else _nothing)
+        read = Blocks(lambda: next(blocks, b"")).read
         if self._charset is not None:
-            following = chain([first], iter(self._session.next, b""))
-            return adapt_all(Adapter(Pieces(lambda: next(following, b"")).read, write, self._charset, found.add), found)
-        blocks = Blocks(self._session, write, first)
-        found.note(Payload(blocks.read), 1 if self._is_only else None)
-        blocks.finish()
+            return adapt_all(Adapter(read, write, self._charset, found.add), found)
+        found.note(Payload(read), 1 if self._is_only else None)
+        for _ in blocks:
+            pass
         return self._session.is_ready()
+
+    def _blocks(self, block: bytes, write: Write) -> Iterator[bytes]:
+        """The blocks of the answer. Each is handed on only after it was parsed here, so the parser never lags behind the program."""
+        while block:
+            yield block
+            write(block)
+            block = self._session.next()
 
     def _unfinished(self) -> Optional[str]:
         return self._session.unfinished
@@ -251,6 +236,10 @@ class Answer(Response):
             if self.owns or not self.is_whole:
                 self._session.close()
                 self._program.close()
+
+
+def _nothing(_: bytes) -> None:
+    pass
 
 
 def connect(

@@ -3,7 +3,7 @@ from __future__ import annotations
 
 import re
 import struct
-from typing import Callable, NamedTuple, Optional, Union
+from typing import Callable, NamedTuple, Optional
 
 from gavyreto.tds import DataType
 
@@ -239,4 +239,3 @@ def quoted(name: str) -> str:
 
 
 TABLES: dict[str, Callable[[Column], str]] = {"sqlite": sqlite_type, "postgresql": postgresql_type}
-Description = Union[None, list[Described]]

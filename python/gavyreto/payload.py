@@ -4,7 +4,7 @@ It judges nothing: the program tds_replay does. What it can't follow raises Valu
 from __future__ import annotations
 
 import threading
-from itertools import islice
+from itertools import chain, islice
 from typing import Callable, Iterator, NamedTuple, Optional
 
 from gavyreto import columns, tds
@@ -142,12 +142,6 @@ def head_of_value(payload: Payload) -> bytes:
     return head + payload.need(2 * head[2] + 7)
 
 
-def pass_over_cell(payload: Payload, type_: Type) -> None:
-    """Passes over the value of a column, NULL or not."""
-    for _ in cell(payload, type_):
-        pass
-
-
 def cell(payload: Payload, type_: Type) -> Iterator[bytes]:
     """The bytes of a value with all that is before and around them, in pieces."""
     if type_.byte in FIXED:
@@ -195,8 +189,8 @@ def descriptions(payload: Payload) -> Iterator[list[Described]]:
             ways = ways_over(token.columns or [])
             yield from [token.columns] if token.columns else []
         elif token.columns:
-            for column in token.columns:
-                pass_over_cell(payload, column.type)
+            for _ in chain.from_iterable(cell(payload, column.type) for column in token.columns):
+                pass
         payload.at = after_rows(payload.data, payload.at, ways)
 
 

@@ -249,8 +249,7 @@ def _of_descriptor(descriptor: int, command: list[str], dates: Dates) -> Respons
     """A response in a file, which the program reads, and which is read here again for its descriptions and its end; or one
     that comes by a pipe or a socket."""
     if not stat.S_ISREG(os.fstat(descriptor).st_mode):
-        own = os.fdopen(os.dup(descriptor), "rb", buffering=0)
-        return _fed(lambda most: own.read(most) or b"", command, dates)
+        return _fed(_reading(descriptor)[0], command, dates)
     held = HeldFile(descriptor)
     return Response(Program(command, held.descriptor), dates, LateDescriptions(held.read), tail=held.tail, held=held)
 

@@ -10,10 +10,11 @@ import weakref
 from functools import partial
 from itertools import chain, islice, repeat
 from operator import length_hint
-from typing import Any, Callable, Iterator, NamedTuple, NoReturn, Optional, Protocol, Sequence, TypeVar, Union, cast
+from typing import Any, Callable, Iterator, NamedTuple, NoReturn, Optional, Sequence, TypeVar, Union, cast
 
 from gavyreto.columns import FLOATS, Column
 from gavyreto.errors import Error, Interrupted, MalformedText, NotOneSet, PassedOver, UnfinishedText
+from gavyreto.payload import Descriptions
 from gavyreto.records import BLOCK, SEPARATOR, LongField, LongRecord, OpenField, Read, Records, end_of_set, joined, outlined, record_at
 from gavyreto.rows import Row, row_type
 from gavyreto.values import BINARY, FLOAT, NULL, QUOTE, Converter, Dates, Value, check_dates, value_of
@@ -24,14 +25,6 @@ SEVERAL = "several sets: split them first, as docs/RECIPES.md has it in \"Severa
 
 Columns = list[list[Value]]  # the values of some rows, by columns
 Described = tuple[str, Optional[str], None, Optional[int], Optional[int], Optional[int], Optional[bool]]
-
-
-class Describes(Protocol):
-    """What knows the columns of each set of a response."""
-
-    def of(self, place: int) -> Optional[list[Column]]: ...
-
-    def take(self, place: int) -> Optional[list[Column]]: ...
 
 
 class Parser:
@@ -509,7 +502,7 @@ class Sets:
     exception from elsewhere, as that of Ctrl-C; after `close` before the end it raises ValueError. A second thread that reads at the
     same time gets a ValueError."""
 
-    def __init__(self, read: Read, dates: Dates, descriptions: Optional[Describes] = None, adapts: bool = False) -> None:
+    def __init__(self, read: Read, dates: Dates, descriptions: Optional[Descriptions] = None, adapts: bool = False) -> None:
         self.sets = 0  #: handed out so far
         self._descriptions, self._adapts = descriptions, adapts
         self._parser = Parser(read, dates, self._floats_of)

@@ -9,7 +9,7 @@ from typing import Optional
 from gavyreto import tds
 from gavyreto.capturing.accounts import Accounts
 from gavyreto.capturing.desk import Answer, Desk, Lost, Sides
-from gavyreto.capturing.messages import MARS, Asked, Packets, Request, is_greeting, is_header, is_login, is_record
+from gavyreto.capturing.messages import Asked, Packets, Request, is_greeting, is_header, is_login, is_record
 from gavyreto.capturing.pending import HANDSHAKE, Pending
 from gavyreto.capturing.streams import Piece
 from gavyreto.tds import PacketType
@@ -156,7 +156,7 @@ class Answers:
                 self.pending.answer(request)
             self.begun = place
             self._answer = Answer(piece.time, self._desk.keep(), Packets(kinds, self._is_numbered), request)
-        elif data[0] == MARS:
+        elif data[0] == tds.MARS:
             self.stop("several answers at once (MARS), which aren't read", piece.time)
         elif is_record(data) or len(data) == 1 and is_record(data + b"\x03"):
             self.stop("the connection is encrypted", piece.time)

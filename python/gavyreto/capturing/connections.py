@@ -132,8 +132,7 @@ class Connections:
         if self._silent.pop(conversation, None):
             self._recent[conversation] = key
         self._recent.move_to_end(conversation)
-        if conversation.share.held:
-            self._memory.touch(conversation.share)
+        self._memory.touch(conversation.share)
         conversation.take(is_client, segment, time)
         if segment.flags & (SYN | ACK) == SYN | ACK and self._endings.has_been(key, conversation.first()):
             self._desk.tell(conversation.sides, time, "a connection with these addresses and first numbers has been there: what follows may be the same")

@@ -11,10 +11,8 @@ from gavyreto import tds
 from gavyreto.capturing.streams import Piece
 from gavyreto.tds import PacketType
 
-TLS_RECORDS = range(0x14, 0x18)  # types of TLS records
 ASKING_RECORDS = (0x16, 0x17)  # those that an answer may come to: not a change of ciphers, nor an alert
-MARS = 0x53
-PROCEDURE, BULK, FEDERATED, TRANSACTION, SSPI = 0x03, 0x07, 0x08, 0x0E, 0x11  # further types of packets that a client sends
+FEDERATED = 0x08  # a further type of packets that a client sends
 STATEMENT_LENGTH = 60  # characters of a statement that are shown
 MOST_OF_A_STATEMENT = 4096  # bytes that these are looked for in
 
@@ -32,8 +30,9 @@ class Asked(Enum):
 
 
 KINDS = {
-    PacketType.STATEMENT: Asked.STATEMENT, PROCEDURE: Asked.PROCEDURE, PacketType.ATTENTION: Asked.ATTENTION, BULK: Asked.BULK,
-    TRANSACTION: Asked.TRANSACTION, PacketType.LOGIN: Asked.LOGIN, SSPI: Asked.LOGIN, FEDERATED: Asked.LOGIN, PacketType.PRELOGIN: Asked.GREETING}
+    PacketType.STATEMENT: Asked.STATEMENT, PacketType.PROCEDURE: Asked.PROCEDURE, PacketType.ATTENTION: Asked.ATTENTION,
+    PacketType.BULK: Asked.BULK, PacketType.TRANSACTION: Asked.TRANSACTION, PacketType.LOGIN: Asked.LOGIN, PacketType.TICKET: Asked.LOGIN,
+    FEDERATED: Asked.LOGIN, PacketType.PRELOGIN: Asked.GREETING}
 
 
 @dataclass
@@ -59,7 +58,7 @@ def is_header(data: bytes, kinds: Container[int], at: int = 0) -> bool:
 
 def is_record(data: bytes) -> bool:
     """Whether a record of TLS begins so."""
-    return len(data) >= 2 and data[0] in TLS_RECORDS and data[1] == 3
+    return len(data) >= 2 and data[0] in tds.TLS_RECORDS and data[1] == 3
 
 
 def shortened(body: bytes) -> str:
@@ -156,7 +155,7 @@ class Requests:
 
     def _keep(self, rest: bytes) -> None:
         """A header that isn't whole waits; anything else is passed over, up to the piece that begins with one."""
-        if len(rest) < tds.HEADER and (rest[0] in KINDS or rest[0] in TLS_RECORDS):
+        if len(rest) < tds.HEADER and (rest[0] in KINDS or rest[0] in tds.TLS_RECORDS):
             self._waiting = rest
         else:
             self.strange += len(rest)
@@ -215,7 +214,7 @@ def is_greeting(payload: bytes) -> bool:
 
 
 LOGIN_TOKENS = (tds.Token.ENV_CHANGE, tds.Token.INFO, tds.Token.ERROR)  # what comes before the LOGINACK
-SSPI_ANSWER, FEDERATED_ANSWER = 0xED, 0xEE  # what a server asks in turn (MS-TDS, SSPI and FEDAUTHINFO)
+FEDERATED_ANSWER = 0xEE  # what a server asks in turn (MS-TDS, FEDAUTHINFO), beside tickets
 
 
 def is_login(payload: bytes) -> bool:
@@ -224,4 +223,4 @@ def is_login(payload: bytes) -> bool:
     at = 0
     while at < len(payload) and payload[at] in LOGIN_TOKENS:
         at += 3 + int.from_bytes(payload[at + 1:at + 3], "little")
-    return at < len(payload) and payload[at] in (tds.Token.LOGIN_ACK, SSPI_ANSWER, FEDERATED_ANSWER)
+    return at < len(payload) and payload[at] in (tds.Token.LOGIN_ACK, tds.Token.TICKET, FEDERATED_ANSWER)

@@ -141,10 +141,14 @@ class Export:
 
     def _put(self, text: Optional[str], sides: Sides, time: int, statement: str, status: int, said: str) -> None:
         put(line((text, sides.client or None, sides.server or None, moment_of(time), statement or None, status, said)))
-        self.note(status)
+        self._count(status)
 
-    def note(self, status: int) -> None:
-        """Something came to a status."""
+    def note(self, text: str, status: int = 0) -> None:
+        """Writes a line to standard error, with a status."""
+        tell(text)
+        self._count(status)
+
+    def _count(self, status: int) -> None:
         self.worst = max(self.worst, status if status in (0, SERVER_ERROR, BAD_INPUT) else FAILED)
 
 
@@ -162,17 +166,6 @@ def moment_of(time: int) -> Optional[str]:
         return None
 
 
-class Notes:
-    """Lines for standard error, each with a status."""
-
-    def __init__(self, export: Export) -> None:
-        self._export = export
-
-    def add(self, text: str, status: int = 0) -> None:
-        tell(text)
-        self._export.note(status)
-
-
 def capture(asked: argparse.Namespace) -> int:
     """Exports a capture or a dump, and returns the greatest status."""
     named = needed(STANDARD_INPUT) if asked.file == "-" else asked.file
@@ -187,21 +180,20 @@ def capture(asked: argparse.Namespace) -> int:
             command = program.command_of(asked.program, program.PACKET_SIZE, asked.column_room, program.MAX_WIRE, asked.charset)
             room = stack.enter_context(Room(folder, command, not asked.packets and not asked.adapt))
             export, accounts = Export(asked, room), Accounts()
-            notes = Notes(export)
             if files.is_capture(source.head()):
-                take_capture(source, export, accounts, notes, set(asked.port or [1433]), Progress(file, accounts, say))
+                take_capture(source, export, accounts, set(asked.port or [1433]), Progress(file, accounts, say))
             elif is_header(source.head(), (PacketType.ANSWER,)):
                 put(line(HEADER))
                 dumps.take_recorded(source, export, accounts)
-            elif not take_dump(source, export, accounts, notes):
+            elif not take_dump(source, export, accounts):
                 raise Stopped(f"{asked.file} is neither a capture (pcap or pcapng), nor a dump of FreeTDS, nor what a server sent", REFUSED)
-    notes.add(accounts.line())
+    export.note(accounts.line())
     if not accounts.meets():
-        notes.add("the sums don't meet", FAILED)
+        export.note("the sums don't meet", FAILED)
     return export.worst
 
 
-def take_capture(source: files.Source, export: Export, accounts: Accounts, notes: Notes, ports: set[int], progress: Progress) -> None:
+def take_capture(source: files.Source, export: Export, accounts: Accounts, ports: set[int], progress: Progress) -> None:
     """Exports the answers in a capture."""
     connections, drops, cut = Connections(ports, export, accounts), files.Drops(), ""
     put(line(HEADER))
@@ -213,22 +205,22 @@ def take_capture(source: files.Source, export: Export, accounts: Accounts, notes
     connections.finish()
     for kinds, status in (accounts.unread, BAD_INPUT), (accounts.foreign, 0):
         for reason, count in kinds.most_common():
-            notes.add(f"{count} frames aren't read: {reason}", status)
+            export.note(f"{count} frames aren't read: {reason}", status)
     if drops.total():
-        notes.add(f"{drops.total()} frames were lost while they were captured, as the capture itself counts them", BAD_INPUT)
+        export.note(f"{drops.total()} frames were lost while they were captured, as the capture itself counts them", BAD_INPUT)
     if connections.cut:
-        notes.add(f"{connections.cut} frames weren't captured whole: `tcpdump -s 0` keeps all of them", BAD_INPUT)
+        export.note(f"{connections.cut} frames weren't captured whole: `tcpdump -s 0` keeps all of them", BAD_INPUT)
     others = ", ".join(str(port) for port, _ in connections.others.most_common())
     asked = ", ".join(map(str, sorted(ports)))
     if not accounts.connections:
-        notes.add(f"no server on port {asked}" + (f"; what looks like TDS is on port {others}" if others else "") + ": --port names another", BAD_INPUT)
+        export.note(f"no server on port {asked}" + (f"; what looks like TDS is on port {others}" if others else "") + ": --port names another", BAD_INPUT)
     elif others:
-        notes.add(f"what looks like TDS is on port {others} too: --port names others than {asked}")
+        export.note(f"what looks like TDS is on port {others} too: --port names others than {asked}")
     if cut:
-        notes.add(cut, BAD_INPUT)
+        export.note(cut, BAD_INPUT)
 
 
-def take_dump(source: files.Source, export: Export, accounts: Accounts, notes: Notes) -> bool:
+def take_dump(source: files.Source, export: Export, accounts: Accounts) -> bool:
     """Exports the answers in a dump. Returns whether it is one."""
     packets = dumps.dumped(source.lines())
     first = next(packets, None)
@@ -238,7 +230,7 @@ def take_dump(source: files.Source, export: Export, accounts: Accounts, notes: N
     try:
         dumps.take_packets(first, packets, export, accounts)
     except dumps.Mixed as why:
-        notes.add(f"{why}: the packets of several connections are mixed, or some are lacking, and the rest isn't read", BAD_INPUT)
+        export.note(f"{why}: the packets of several connections are mixed, or some are lacking, and the rest isn't read", BAD_INPUT)
     return True
 
 
