@@ -6,7 +6,6 @@ import os
 import re
 import sys
 import threading
-import weakref
 from functools import partial
 from itertools import chain, islice, repeat
 from operator import length_hint
@@ -237,8 +236,11 @@ class Opened(io.IOBase):
     def close(self) -> None:
         """Passes over what is left of the row."""
         if not self.closed:
-            super().close()
-            self._sets._close_row(self._place, self._pieces)
+            self._sets._guarded(self._close)
+
+    def _close(self) -> None:
+        super().close()
+        self._sets._close_row(self._place, self._pieces)
 
 
 class ValueFile(Opened, io.BufferedIOBase):
@@ -409,10 +411,9 @@ class ResultSet:
         if isinstance(field, Held):
             self._sets._close_row(place, iter(()))
             return _file_of(field.value)
+        self._sets._is_within = True
         kind: type[Union[ValueFile, TextFile]] = ValueFile if field.shape is BINARY else TextFile
-        file = kind(self._sets, place, field)
-        self._sets._opened = weakref.ref(file)
-        return file
+        return kind(self._sets, place, field)
 
     def _check_passed_over(self) -> None:
         if self._is_passed_over:
@@ -507,7 +508,7 @@ class Sets:
         self._descriptions, self._adapts = descriptions, adapts
         self._parser = Parser(read, dates, self._floats_of)
         self._current: Optional[ResultSet] = None
-        self._opened: Callable[[], Optional[Opened]] = lambda: None  # the last value that was opened as a file; who drops one closes it
+        self._is_within = False  # whether a value is open as a file, within its row; who drops one closes it
         self._rows_before = 0  # of the sets before the current one
         self._failure: Optional[BaseException] = None
         self._is_untold = False  # whether rows before the failure were handed out, and it wasn't raised since
@@ -556,8 +557,7 @@ class Sets:
 
     def _check_closed(self) -> None:
         """Sees to it that nothing is read past a value that is open."""
-        opened = self._opened()
-        if opened and not opened.closed and not self._failure and not self._is_closed:
+        if self._is_within and not self._failure and not self._is_closed:
             raise ValueError("the value that was opened before isn't closed")
 
     def _guarded(self, call: Callable[[], T]) -> T:
@@ -606,6 +606,7 @@ class Sets:
         if not self._failure and not self._is_closed:
             self._step(lambda: [None for _ in pieces])
             self._step(lambda: self._parser.close_row(place))
+            self._is_within = False
 
     def _end_set(self, is_only: bool) -> None:
         """A set is over: so is the text, or another set follows."""

@@ -156,6 +156,24 @@ class Rows(unittest.TestCase):
                 at += 2
             self.assertGreater(at, 50)
 
+    def test_an_interrupt_while_a_value_is_closed(self) -> None:
+        """Nothing is read from within its row on: what is left of it would be taken for rows, or for the names of a set."""
+        at, is_interrupted = 1, True
+        while is_interrupted:
+            came = text_of(b'"a","b"\r\n"x","' + b"y" * 300 + b'"\r\n' + b'"z","z"\r\n' * 9, 50)
+            rows = next(came)
+            file: Any = rows.open("b")
+            file.read()
+            is_interrupted = interrupted(at, file.close)
+            try:
+                self.assertEqual((rows.fetchall(), list(came)), ([("z", "z")] * 9, []))
+            except ValueError as wrong:
+                self.assertEqual(str(wrong), "the value that was opened before isn't closed")
+            except gavyreto.Interrupted:
+                pass
+            at += 1
+        self.assertGreater(at, 20)
+
     def test_a_second_thread_is_refused(self) -> None:
         begun, go_on = threading.Event(), threading.Event()
         source = io.BytesIO(b'"a"\r\n' + b"1\r\n" * 10)
