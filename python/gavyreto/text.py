@@ -282,7 +282,7 @@ class ResultSet:
     def columns(self) -> Optional[list[Column]]:
         """The columns with their types as SQL writes them; None if the packets weren't read here: of a text, or of a descriptor
         or socket that was handed to the program."""
-        found = self._described or (self._sets._descriptions.of(self._place) if self._sets._descriptions else None)
+        found = self._described or self._sets._guarded(lambda: self._sets._descriptions and self._sets._descriptions.of(self._place))
         return [column._replace(name=name) for column, name in zip(found, self.names)] if found else None
 
     @property

@@ -21,7 +21,7 @@ from typing import Any, Optional
 import gavyreto
 from gavyreto import tds
 from gavyreto.program import report_of
-from tests.beside import PROGRAM, answered, is_waiting, responses, served, wait_for, wire
+from tests.beside import PROGRAM, answered, interrupted, is_waiting, responses, served, wait_for, wire
 
 
 def export(source: Any, **options: Any) -> gavyreto.Response:
@@ -134,6 +134,15 @@ class Columns(unittest.TestCase):
         with export(wire("sets")) as came:
             sets = list(came)
             self.assertEqual([it.type for it in sets[2].columns or []], ["int"])
+
+    def test_an_interrupt_while_types_are_read(self) -> None:
+        """They are there after it, or the reading has failed: a frame would have others without them."""
+        for at in range(1, 150, 4):
+            with self.subTest(at=at), export(wire("sets")) as came:
+                rows = next(came)
+                interrupted(at, lambda rows=rows: rows.columns)  # type: ignore[misc]
+                if rows.columns is None:
+                    self.assertRaises(gavyreto.Interrupted, rows.fetchall)
 
     def test_a_text_has_names_alone(self) -> None:
         with tempfile.NamedTemporaryFile() as file:
