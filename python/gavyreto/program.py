@@ -221,6 +221,9 @@ class Program:
     def __exit__(self, *_: object) -> None:
         self.close()
 
+    def __del__(self) -> None:
+        self.kill()
+
     def begin(self) -> None:
         """Begins a response. Raises OSError if the program can't be started."""
         if self._process and (self._is_under_way() or not self.is_reading or self._process.poll() is not None):

@@ -74,6 +74,14 @@ class SetsAndRows(unittest.TestCase):
         with self.assertRaisesRegex(ValueError, "closed"):
             next(came)
 
+    def test_readings_that_are_dropped(self) -> None:
+        """Their programs end, and their descriptors don't get more with each."""
+        before = len(os.listdir("/proc/self/fd"))
+        for _ in range(300):
+            next(export(wire("kinds", 10)).only())
+        all_of(export(wire("sets")))
+        self.assertLess(len(os.listdir("/proc/self/fd")), before + 15)
+
     def test_rows_come_before_the_response_has_ended(self) -> None:
         data = wire("orders", 5000)
         for is_buffered in (False, True):
