@@ -115,6 +115,13 @@ class Outputs(Live):
             came = self.query(f"TRUSTED -o 'r{{}}' {words}", (), "ln -sf one r1; ln -sf one r2; ")
             self.assertEqual((came.returncode, came.stderr.decode().splitlines()[-1]), (2, "r1 and r2 are one file"))
 
+    def test_packets_in_place_of_the_rows(self) -> None:
+        """A file that gets its name where standard output is would leave the rows without one."""
+        for name in ("rows", "/dev/stdout"):
+            came = self.query(f"TRUSTED --packets {name} 'SELECT * FROM orders' > rows", ("--record", "sent"))
+            self.assert_ends(came, 2, b"", f"{name}: the rows are written to it")
+            self.assertFalse(os.path.exists(self.path("sent")))
+
     def test_names_of_open_descriptors(self) -> None:
         """What is written there goes on where it is: what is before and behind it stays."""
         asked = '$QUERY -S 127.0.0.1,$PORT -U reader --program "$PROGRAM" --certificates "$CERTIFICATE" "SELECT * FROM orders"'

@@ -182,6 +182,8 @@ class Names:
             for name in (path, path + PARTIAL):
                 if is_one_file(name, STANDARD_INPUT if source == "-" else source):
                     raise Stopped(f"{name}: the statements are read from it", REFUSED)
+        if not self._asked.output and is_one_file(path, STANDARD_OUTPUT):
+            raise Stopped(f"{path}: the rows are written to it", REFUSED)
         real = os.path.realpath(path)
         keeps = os.path.islink(path) or len(self._links) < 2 * CHECKED_OUTPUTS
         other = self._links.setdefault(real, path) if keeps else self._links.get(real, path)
