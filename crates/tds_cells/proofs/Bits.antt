@@ -20,13 +20,13 @@ module _ (bitmap : N.List ℕ) (at : ℕ) where
       let place : (at + i) % 8 ≡ at % 8 + i = omega arith in
       rw (byte, place, pow-add, div-div-eq-div-mul) N.refl
 
-  pub clear_byte : bits ≡ 0 → N.AreClear (bit bitmap) at (at / 8 * 8 + 8)
+  pub clear_byte : bits ≡ 0 → N.BitsAre N.false (bit bitmap) at (at / 8 * 8 + 8)
   clear_byte none k least most =
       let there : at + (k - at) ≡ k = omega arith in
       rw there at (rw (none, bit_at-zero) at (bit_in (k - at) (omega arith)))
 
   -- the lowest one that is set
-  pub first_set : slice_index bitmap (at / 8) < 2 ^ 8 → 0 < bits → N.AreClear (bit bitmap) at (at + trailing_zeros w8 bits)
+  pub first_set : slice_index bitmap (at / 8) < 2 ^ 8 → 0 < bits → N.BitsAre N.false (bit bitmap) at (at + trailing_zeros w8 bits)
       × (bit bitmap (at + trailing_zeros w8 bits) ≡ N.true)
   first_set fits some =
       let t = trailing_zeros w8 bits in
@@ -44,7 +44,7 @@ module _ (bitmap : N.List ℕ) (at : ℕ) where
       )
 
   -- those that are set before the lowest one that isn't
-  pub ones_before : slice_index bitmap (at / 8) < 2 ^ 8 → (at % 8 + trailing_ones w32 bits ≤ 8) × N.AreSet (bit bitmap) at (at + trailing_ones w32 bits)
+  pub ones_before : slice_index bitmap (at / 8) < 2 ^ 8 → (at % 8 + trailing_ones w32 bits ≤ 8) × N.BitsAre N.true (bit bitmap) at (at + trailing_ones w32 bits)
   ones_before fits =
       let t = trailing_ones w32 bits in
       let ones = bit_at-trailing_ones w32 bits (omega arith) in

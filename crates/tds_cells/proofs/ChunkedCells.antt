@@ -1,9 +1,13 @@
 -- Cells of values in one chunk at most whose bytes lie together.
 use Rattle.tds_cells.proofs as N
 use N.{◌≡◌, ◌∙◌, ◌==◌, ◌-◌, ℕ, ◌+◌, ◌<◌, ◌≤◌, [], ◌∷◌, ◌++◌, List, length, take, drop, zero, suc, refl, sym, ap, arith, common_steps, SpellsChunked}
-use N.{chunk_data, HasOneChunk}
+use N.{HasOneChunk}
 use N.CellLaws.{cell_is_read}
 use Rattle.byteorder.specs.Endian.{little_number}
+
+-- the data of so many bytes in the first chunk
+abbrev chunk_data : ℕ → List ℕ → List ℕ
+chunk_data n bytes = take n (drop 12 bytes)
 
 -- the number in some bytes within others
 four_at : (k : ℕ) (bytes : List ℕ) → k + 4 ≤ length bytes
@@ -70,15 +74,15 @@ module _ (bytes : List ℕ) where
       (λ z. one_chunk n (omega (arith, N.eq_false n 0 z)) x)
 
 module _ (column : ℕ) (c : N.Conversion) (last : N.Bool) (bytes text : List ℕ) where
-  pub chunked_null : ((i : ℕ) → N.slice_index bytes i < 256) → 8 ≤ length bytes → N.stated_total bytes ≡ N.null_total
+  pub chunked_null : ((i : ℕ) → N.slice_index bytes i < 256) → 8 ≤ length bytes → little_number 8 bytes ≡ N.null_total
       → text ≡ N.in_line column last N.null_field → N.WritesWhole (N.Total c) column last (take 8 bytes) text
   chunked_null low within all is =
       let total = eight_at_front bytes within in
       let ones = N.CellMeaning.eight_ones (take 8 bytes) total.0 (bytes_are 8 bytes low) (total.1 ∙ all) in
       record { value = N.Null; spelt = cell_is_read column (N.Wide N.Chunked) (N.LongShape c N.Chunked) N.Null _ tt ones; text_is = is }
 
-  pub chunked_value : (n : ℕ) → HasOneChunk bytes n → N.is_fit c (chunk_data n bytes) ≡ N.true
-      → text ≡ N.in_line column last (N.long_field c (chunk_data n bytes)) → N.WritesWhole (N.Total c) column last (take (N.chunk_end n) bytes) text
+  pub chunked_value : (n : ℕ) → HasOneChunk bytes n → N.is_fit c (take n (drop 12 bytes)) ≡ N.true
+      → text ≡ N.in_line column last (N.long_field c (take n (drop 12 bytes))) → N.WritesWhole (N.Total c) column last (take (N.chunk_end n) bytes) text
   chunked_value n x fit is = record {
     value = N.DataCell c (chunk_data n bytes);
     spelt = cell_is_read column (N.Wide N.Chunked) (N.LongShape c N.Chunked) _ _ tt (refl, fit, chunk_spells bytes n x);

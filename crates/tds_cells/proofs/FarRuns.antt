@@ -6,7 +6,10 @@ use N.RunSteps.{unused, whole_some}
 use N.RowFormatRuns.{place_known, rows_more, runs_column}
 use N.RowFormatSteps.{last_one, next_known, takes}
 use Rattle.std.proofs.lemmas.List.{get_or-drop}
-use Rattle.tds_cells.specs.Runs.{comma_size}
+
+-- how many bytes the comma before a column's field has
+abbrev pub comma_size : ℕ → ℕ
+comma_size column = length (after_comma column [])
 
 -- the comma of any column but the first
 pub comma_one : (n : ℕ) → comma_size (n + 1) ≡ 1
@@ -72,8 +75,8 @@ pub far_more : {row_format : RowFormat} {from : N.Cursor} {walk : N.Walk} {bytes
     → take made old ≡ take (made - comma_size cells) old ++ after_comma cells [] → take made new ≡ take made old
     → (made + m ≤ length new) × (end ≤ length final) → take end final ≡ take (made + m) new ++ end_after last
     → u ≡ N.whole_size d.kind (drop used bytes) → N.WritesField row_format.charset d.kind (take u (drop used bytes)) (take m (drop made new))
-    → Ran row_format Unmarked from bytes old (record { used = used; made = made - comma_size cells; rows = rows; ahead = place walk cells })
-    → Ran row_format Unmarked from bytes final (record { used = used + u; made = end; rows = rows; ahead = place walk (cells + 1) })
+    → Ran row_format Unmarked from (place walk cells) bytes old (record { used = used; made = made - comma_size cells; rows = rows })
+    → Ran row_format Unmarked from (place walk (cells + 1)) bytes final (record { used = used + u; made = end; rows = rows })
 far_more {row_format = row_format} {walk = walk} {bytes = bytes} {old = old} {row = row} cells used u made m end d new final last all some are last_is format_is
     (begun, (within, few)) comma kept (fits, ends) is whole wrote x =
     let at = made - comma_size cells in
@@ -87,7 +90,7 @@ far_more {row_format = row_format} {walk = walk} {bytes = bytes} {old = old} {ro
     let row_form = ap (λ (l : List CellFormat). get_or l cells d) are ∙ N.get_or-take row_format.known row_format.formats.now cells d known in
     let kind_is = ap (λ (f : CellFormat). f.kind) (format_is ∙ row_form) in
     let size : 0 < u = omega (arith, whole, whole_some d.kind (drop used bytes)) in
-    rw (final_is, made_is) (rows_more {cells = record { used = u; made = end - at; ahead = place walk (cells + 1) }} rest [] size
+    rw (final_is, made_is) (rows_more {u = u} {m = end - at} rest [] size
     (rw left few) (omega (arith, ends, N.length-drop at final))
     (λ columns knows ahead.
     let next = next_known row_format columns (place walk cells) d.kind knows ahead d some known (omega arith) kind_is in
@@ -112,9 +115,9 @@ pub rest_more : {row_format : RowFormat} {from : N.Cursor} {walk : N.Walk} {byte
     → take made old ≡ take (made - comma_size cells) old ++ after_comma cells [] → take made new ≡ take made old
     → (made + m ≤ length new) × (end ≤ length final) → take end final ≡ take (made + m) new ++ end_after last
     → u ≡ N.whole_size d.kind rest → N.WritesField row_format.charset d.kind (take u rest) (take m (drop made new))
-    → Ran row_format Unmarked from bytes old
-    (record { used = length bytes - length rest; made = made - comma_size cells; rows = rows; ahead = place walk cells })
-    → Ran row_format Unmarked from bytes final (record { used = now; made = end; rows = rows; ahead = place walk (cells + 1) })
+    → Ran row_format Unmarked from (place walk cells) bytes old
+    (record { used = length bytes - length rest; made = made - comma_size cells; rows = rows })
+    → Ran row_format Unmarked from (place walk (cells + 1)) bytes final (record { used = now; made = end; rows = rows })
 rest_more {row_format = row_format} {bytes = bytes} rest cells u made m end now d new final last within rest_is now_is all some are last_is format_is
     (begun, (fits, few)) comma kept room is whole wrote x =
     let used = length bytes - length rest in

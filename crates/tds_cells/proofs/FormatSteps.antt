@@ -101,6 +101,11 @@ before_comma made column to fields some within is =
     sym (N.take-take _ made to (omega arith)) ∙ ap (take _) comma
     ∙ N.take-append-le _ fields _ (omega arith) ∙ N.take_all _ fields (omega arith)
 
+-- A run wrote the fields of the bytes that it used, and the comma of the next one.
+abbrev pub FieldsWritten : Charset → List CellFormat → ℕ → List ℕ → List ℕ → N.FormatsRun → Type 0
+FieldsWritten charset formats column bytes text run = (fields : List ℕ) × N.WritesFormats charset formats column run.cells (take run.used bytes) fields
+    × (take run.made text ≡ fields ++ N.after_comma (column + run.cells) [])
+
 -- the bytes of the first cell were used, which are this many
 abbrev pub FirstUsed : List CellFormat → List ℕ → ℕ → Type 0
 FirstUsed formats bytes used = (format : CellFormat) (rest : List CellFormat) → formats ≡ format ∷ rest → used ≡ N.whole_size format.kind bytes
@@ -108,8 +113,8 @@ FirstUsed formats bytes used = (format : CellFormat) (rest : List CellFormat) �
 module _ (charset : Charset) (formats : List CellFormat) (column : ℕ) (bytes : List ℕ) where
   pub fields_more : (to text rest : List ℕ) (k used u now made m : ℕ) (d : CellFormat) → now ≡ used + u → made ≤ length to → m < length text
       → k < length formats → N.WritesField charset (get_or formats k d).kind (take u (unused used bytes)) (take m text)
-      → N.FieldsWritten charset formats column bytes to (record { cells = k; used = used; made = made })
-      → N.FieldsWritten charset formats column bytes (N.slice_set (take made to ++ (text ++ rest)) (made + m) 44)
+      → FieldsWritten charset formats column bytes to (record { cells = k; used = used; made = made })
+      → FieldsWritten charset formats column bytes (N.slice_set (take made to ++ (text ++ rest)) (made + m) 44)
       (record { cells = k + 1; used = now; made = made + m + 1 })
   fields_more to text rest k used u _ made m d further within some there wrote (fields, x, is) =
       let read = take u _ in
@@ -128,7 +133,8 @@ module _ (charset : Charset) (formats : List CellFormat) (column : ℕ) (bytes :
 
   pub first_alone : (ends : Bool) (to : List ℕ) (used made : ℕ) (fields : List ℕ) → FirstUsed formats bytes used
       → N.WritesFormats charset formats column 1 (take used bytes) fields → take made to ≡ fields ++ end_after (ends && (1 == length formats))
-      → N.FirstWritten charset formats column ends bytes to (record { cells = 1; used = used; made = made })
+      → (format : CellFormat) (rest : List CellFormat) → formats ≡ format ∷ rest → (used ≡ N.whole_size format.kind bytes)
+      × N.WritesKind charset format.kind column (ends && (1 == length formats)) (take used bytes) (take made to)
   first_alone ends _ _ _ _ size (front, rest, before, field, b, t, x, y) is = λ format others are.
       let last = ends && _ in
       let read = sym (b ∙ ap (λ l. l ++ rest) x.0) in
@@ -278,13 +284,15 @@ fields_step {formats = formats} {bytes = bytes} {cells = cells} {used = used} u 
 -- a run ended here, with what was made as it was
 pub fields_end : {charset : Charset} {formats : List CellFormat} {column : ℕ} {bytes : List ℕ} {cells used made : ℕ} (to new : List ℕ)
     → FieldsAt formats bytes (length to) cells used made → length new ≡ length to → take made new ≡ take made to
-    → N.FieldsWritten charset formats column bytes to (record { cells = cells; used = used; made = made })
+    → FieldsWritten charset formats column bytes to (record { cells = cells; used = used; made = made })
     → N.WritesFields charset formats column bytes new (record { cells = cells; used = used; made = made })
 fields_end to new at size same x = record {
   within = grind arith;
   room = grind arith;
   one = at.one;
-  fields = (x.0, x.1, same ∙ x.2);
+  fields = x.0;
+  writes = x.1;
+  text_is = same ∙ x.2;
 }
 
 -- its last comma gives way to the end of the line, or to nothing
@@ -307,14 +315,14 @@ pub fields_run : {charset : Charset} {formats : List CellFormat} {column : ℕ} 
     → take made new ≡ take (run.made - 1) text ++ end_after (ends && (run.cells == length formats))
     → N.RunsFormats charset formats column ends bytes room new (record run { made = made })
 fields_run {charset = charset} {formats = formats} {column = column} {ends = ends} {bytes = bytes} {text = text} {run = run} _ made new some x fits is =
-    let (fields, wrote, there) = x.fields in
-    let before = before_comma run.made _ text fields (omega arith) x.within.made there in
+    let fields = x.fields in
+    let before = before_comma run.made _ text fields (omega arith) x.within.made x.text_is in
     let text_is = is ∙ ap (λ l. l ++ end_after _) before in
     record {
       within = omega arith;
       ends = grind arith;
       one = λ alone.
-          let one = N.subst (λ (n : ℕ). N.WritesFormats charset formats column n (take run.used bytes) fields) alone wrote in
+          let one = N.subst (λ (n : ℕ). N.WritesFormats charset formats column n (take run.used bytes) fields) alone x.writes in
           let first = first_alone charset formats column bytes ends new run.used made fields (x.one alone) one
           (text_is ∙ ap (λ (n : ℕ). fields ++ end_after (ends && (n == length formats))) alone) in
           first;
@@ -326,7 +334,7 @@ pub room_step : (n k made m room more : ℕ) → more ≡ room → k < n → m �
     → made + m + 1 + 12 * (n - (k + 1)) + 25 ≤ more
 room_step n k _ m _ _ same some few within = omega arith
 
-shape_less : (s : N.Shape) (bytes : List ℕ) {fewer room : ℕ} → fewer ≤ room → N.IsShapeLeft s bytes room → N.IsShapeLeft s bytes fewer
+shape_less : (s : N.Shape) (bytes : List ℕ) {fewer room : ℕ} → fewer ≤ room → N.IsLongLeft s bytes room → N.IsLongLeft s bytes fewer
 shape_less (N.LongShape c N.Short) _ less left = grind arith
 shape_less (N.LongShape c N.Chunked) _ less left = record {
   some = left.some;

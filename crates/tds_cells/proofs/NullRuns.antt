@@ -44,7 +44,7 @@ inner_null k n some within =
     rw (first, last) refl
 
 -- columns that are NULL by their bit, after the first and before the last
-pub nulls_inside : (nulls : ℕ → Bool) (from n count : ℕ) → 0 < from → from + n < count → N.AreSet nulls from (from + n)
+pub nulls_inside : (nulls : ℕ → Bool) (from n count : ℕ) → 0 < from → from + n < count → N.BitsAre N.true nulls from (from + n)
     → (charset : N.Charset) (columns : List Column) → length columns ≡ count → N.WritesMarked charset columns nulls from n [] (nulls_text n)
 nulls_inside _ _ zero _ _ _ _ _ _ _ = (refl, refl)
 nulls_inside nulls from (suc n) count some within set charset columns counted =

@@ -13,7 +13,7 @@ RowsBetween row_format columns old new count bytes text = IsCursor row_format co
     → N.WritesRows charset columns cells (drop old.column columns) (drop new.column columns) new.column count bytes text)
 
 pub rows_begin : {row_format : RowFormat} {from : Cursor} {bytes to : List ℕ}
-    → Ran row_format Unmarked from bytes to (record { used = 0; made = 0; rows = 0; ahead = from })
+    → Ran row_format Unmarked from from bytes to (record { used = 0; made = 0; rows = 0 })
 rows_begin = grind (arith, rows_none)
 
 -- the token byte of a ROW is next
@@ -22,13 +22,13 @@ begins_at : (used : ℕ) (bytes : List ℕ) → N.BeginsRow (unused used bytes) 
 begins_at _ _ begins = grind (arith, N.drop_more)
 
 -- one row more, after its token byte
-pub row_begun : {row_format : RowFormat} {from start : Cursor} {bytes to : List ℕ} {run : N.RowsRun} → 0 < row_format.count
-    → row_format.count ≤ run.ahead.column
+pub row_begun : {row_format : RowFormat} {from start at : Cursor} {bytes to : List ℕ} {run : N.RowsSpan} → 0 < row_format.count
+    → row_format.count ≤ at.column
     → N.BeginsRow (unused run.used bytes) × (start.column ≡ 0)
-    → ((columns : List Column) → Knows row_format columns → IsCursor row_format columns run.ahead → IsCursor row_format columns start)
-    → Ran row_format Unmarked from bytes to run → Ran row_format Unmarked from bytes to
-    (record { used = run.used + 1; made = run.made; rows = run.rows + 1; ahead = start })
-row_begun {bytes = bytes} {run = run} some at (begins, first) ahead x =
+    → ((columns : List Column) → Knows row_format columns → IsCursor row_format columns at → IsCursor row_format columns start)
+    → Ran row_format Unmarked from at bytes to run → Ran row_format Unmarked from start bytes to
+    (record { used = run.used + 1; made = run.made; rows = run.rows + 1 })
+row_begun {at = at} {bytes = bytes} {run = run} some end (begins, first) ahead x =
     let (within, byte) = begins_at run.used bytes begins in
     record {
       used = omega arith;
@@ -36,7 +36,7 @@ row_begun {bytes = bytes} {run = run} some at (begins, first) ahead x =
       few = omega arith;
       writes = λ columns knows is.
           let y = x.writes columns knows is in
-          let none = N.RowFormatSteps.none_next columns run.ahead.column knows.counted at in (
+          let none = N.RowFormatSteps.none_next columns at.column knows.counted end in (
             ahead columns knows y.0,
             λ charset cells set counted. rw first
                 (rows_onward run.used bytes (omega arith) none within byte (y.1 charset cells set counted)),
@@ -51,11 +51,11 @@ pub more_in_rows : {row_format : RowFormat} {columns : List Column} {old new : C
 more_in_rows _ _ u _ _ _ _ within some x y = grind (arith, used_more, made_more, marked_writes)
 
 -- the same of what a run over rows has done
-pub rows_more : {row_format : RowFormat} {from : Cursor} {bytes to : List ℕ} {run : N.RowsRun} {cells : N.CellRun} (text rest : List ℕ) → 0 < cells.used
-    → cells.used ≤ length (unused run.used bytes) → cells.made ≤ length text
-    → N.CellsWritten row_format run.ahead (unused run.used bytes) text cells → Ran row_format Unmarked from bytes to run
-    → Ran row_format Unmarked from bytes (take run.made to ++ (text ++ rest))
-    (record { used = run.used + cells.used; made = run.made + cells.made; rows = run.rows; ahead = cells.ahead })
+pub rows_more : {row_format : RowFormat} {from at new : Cursor} {bytes to : List ℕ} {run : N.RowsSpan} {u m : ℕ} (text rest : List ℕ) → 0 < u
+    → u ≤ length (unused run.used bytes) → m ≤ length text
+    → N.CellsWritten row_format (λ k. false) at new (take u (unused run.used bytes)) (take m text) → Ran row_format Unmarked from at bytes to run
+    → Ran row_format Unmarked from new bytes (take run.made to ++ (text ++ rest))
+    (record { used = run.used + u; made = run.made + m; rows = run.rows })
 rows_more {from = from} {bytes = bytes} {to = to} {run = run} text rest _ within fits gives x = record {
   used = grind (arith, N.length-take);
   made = grind (arith, N.length-append, N.length-take-le);
@@ -69,15 +69,15 @@ pub marked_in_rows : {row_format : RowFormat} {columns : List Column} {from to :
 marked_in_rows y = (y.ahead, λ charset cells set is. rw y.further (marked_writes _ y.count _ _ (rows_none is) (rw set at y.writes)))
 
 -- what stands after what was made may be another
-pub rows_kept : {row_format : RowFormat} {from : Cursor} {bytes to : List ℕ} {run : N.RowsRun} {new : List ℕ} → length new ≡ length to
-    → take run.made new ≡ take run.made to → Ran row_format Unmarked from bytes to run → Ran row_format Unmarked from bytes new run
+pub rows_kept : {row_format : RowFormat} {from at : Cursor} {bytes to : List ℕ} {run : N.RowsSpan} {new : List ℕ} → length new ≡ length to
+    → take run.made new ≡ take run.made to → Ran row_format Unmarked from at bytes to run → Ran row_format Unmarked from at bytes new run
 rows_kept same is x = grind arith
 
 -- a run, and then another from where it ended
-pub rows_further : {row_format : RowFormat} {from : Cursor} {bytes to : List ℕ} {run more : N.RowsRun} (text rest : List ℕ)
-    → Ran row_format Unmarked from bytes to run → Ran row_format Unmarked run.ahead (unused run.used bytes) text more
-    → Ran row_format Unmarked from bytes (take run.made to ++ (text ++ rest))
-    (record { used = run.used + more.used; made = run.made + more.made; rows = run.rows + more.rows; ahead = more.ahead })
+pub rows_further : {row_format : RowFormat} {from at new : Cursor} {bytes to : List ℕ} {run more : N.RowsSpan} (text rest : List ℕ)
+    → Ran row_format Unmarked from at bytes to run → Ran row_format Unmarked at new (unused run.used bytes) text more
+    → Ran row_format Unmarked from new bytes (take run.made to ++ (text ++ rest))
+    (record { used = run.used + more.used; made = run.made + more.made; rows = run.rows + more.rows })
 rows_further {bytes = bytes} {to = to} {run = run} {more = more} text rest x y = record {
   used = grind (arith, N.length-take);
   made = grind (arith, N.length-append, N.length-take-le);
@@ -155,7 +155,7 @@ module _ {row_format : RowFormat} {columns : List Column} {nulls : ℕ → Bool}
 
 -- a run ended before a column whose bit is clear
 pub ends_clear : (row_format : RowFormat) (nulls : ℕ → Bool) (at : Cursor) (bytes : List ℕ) (room : ℕ) → nulls at.column ≡ false
-    → N.RunEnds row_format at bytes room
+    → N.EndsLeft row_format N.none_null at bytes room
     → N.EndsLeft row_format nulls at bytes room
 ends_clear _ _ at bytes room clear x =
     λ columns column left knows ahead next. elim (x columns column left knows ahead next) [ inl few ↦ inl few | inr y ↦ inr (clear, y.1) ]
@@ -201,7 +201,8 @@ module _ (row_format : RowFormat) (from : Cursor) (end : ℕ) (formats : List Ce
     -- what was written by them is between two places of the row
     pub formats_between : (columns : List Column) → Knows row_format columns → IsCursor row_format columns from
         → (to : Cursor) (bytes text : List ℕ) (run : N.FormatsRun) → to.column ≡ from.column + run.cells → IsCursor row_format columns to
-        → N.FormatsWritten row_format.charset formats from.column ends bytes text run
+        → ((all : List Column) → N.AreNext formats ends (drop from.column all)
+        → N.WritesMarked row_format.charset all (λ k. false) from.column run.cells (take run.used bytes) (take run.made text))
         → RunsMarked row_format columns (λ k. false) from to (take run.used bytes) (take run.made text)
     formats_between _ knows is _ _ _ _ further there x = grind (arith, N.length-drop)
 
@@ -264,8 +265,8 @@ pub row_far : {from : Cursor} {bytes to : List ℕ} {rows used made : ℕ} (row_
     → row_format.known ≡ row_format.count → 0 < row_format.count → row ≡ take row_format.known row_format.formats.now → run.cells ≡ row_format.count
     → take made new ≡ take made to → length new ≡ length to → (used ≤ run.used) × (made ≤ run.made)
     → N.RunsFormats row_format.charset row 0 true (drop used bytes) (length to - made) (drop made new) (N.run_since (record { used = used; made = made }) run)
-    → Ran row_format Unmarked from bytes to (record { used = used; made = made; rows = rows; ahead = record from { column = 0 } })
-    → Ran row_format Unmarked from bytes new (record { used = run.used; made = run.made; rows = rows; ahead = record from { column = row_format.count } })
+    → Ran row_format Unmarked from (record from { column = 0 }) bytes to (record { used = used; made = made; rows = rows })
+    → Ran row_format Unmarked from (record from { column = row_format.count }) bytes new (record { used = run.used; made = run.made; rows = rows })
 row_far {from = from} {bytes = bytes} {to = to} {used = u} {made = m} row_format row run new all some are whole same size begun written x =
     let next = rest_ahead row_format (record from { column = 0 }) row all are some in
     let made = drop m new in
@@ -274,21 +275,21 @@ row_far {from = from} {bytes = bytes} {to = to} {used = u} {made = m} row_format
     grind (arith, N.take-append-drop, N.append-nil) in
     let used : run.used ≡ u + (run.used - u) = omega arith in
     let end : run.made ≡ m + (run.made - m) = omega arith in
-    rw (kept, used, end) (rows_more {cells = record { used = run.used - u; made = run.made - m; ahead = record from { column = row_format.count } }}
+    rw (kept, used, end) (rows_more {u = run.used - u} {m = run.made - m}
     made [] (written.within.some (omega arith)) (rw rest written.within.used)
     (omega (arith, written.within.made, N.length-drop m new))
     (grind (arith, formats_between, N.eq-eqb, place_known)) x)
 
--- what such a run is with this walk
-abbrev pub known_run : N.Walk → N.KnownRun → N.RowsRun
-known_run walk run = record { used = run.used; made = run.made; rows = run.rows; ahead = N.place walk run.column }
+abbrev pub known_span : N.KnownRun → N.RowsSpan
+known_span run = record { used = run.used; made = run.made; rows = run.rows }
 
 pub ran_at : {row_format : RowFormat} {column : ℕ} {bytes text : List ℕ} {run : N.KnownRun} → N.KnownRan row_format column bytes text run
-    → (walk : N.Walk) → Ran row_format Unmarked (N.place walk column) bytes text (known_run walk run)
+    → (walk : N.Walk) → Ran row_format Unmarked (N.place walk column) (N.place walk run.column) bytes text (known_span run)
 ran_at x walk = record { used = x.used; made = x.made; few = x.few; writes = x.writes walk }
 
 pub known_ran : {row_format : RowFormat} {column : ℕ} {bytes text : List ℕ} {run : N.KnownRun}
-    → ((walk : N.Walk) → Ran row_format Unmarked (N.place walk column) bytes text (known_run walk run)) → N.KnownRan row_format column bytes text run
+    → ((walk : N.Walk) → Ran row_format Unmarked (N.place walk column) (N.place walk run.column) bytes text (known_span run))
+    → N.KnownRan row_format column bytes text run
 known_ran {row_format = row_format} x = record {
   used = (x row_format.rest).used;
   made = (x row_format.rest).made;

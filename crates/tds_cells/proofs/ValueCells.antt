@@ -102,11 +102,11 @@ module _ (charset : N.Charset) (kind : Kind) (column : ℕ) (last : Bool) (bytes
   front_cell used valid is within x =
       rw is (value_cell _ _ refl refl (grind (arith, allowed_some)) (omega (arith, is)) x)
 
-pub int4_scalar : (kind : Kind) → N.IsInt4 kind → N.is_scalar kind ≡ true
+pub int4_scalar : (kind : Kind) → N.is_int4 kind ≡ true → N.is_scalar kind ≡ true
 int4_scalar _ number = grind arith
 
 -- one that may be NULL comes after its length
-pub int4_start : (kind : Kind) → N.IsInt4 kind → N.is_counted kind ≡ true → (bytes : List ℕ) → (N.is_scalar kind ≡ true)
+pub int4_start : (kind : Kind) → N.is_int4 kind ≡ true → N.is_counted kind ≡ true → (bytes : List ℕ) → (N.is_scalar kind ≡ true)
     × ((1 ≡ N.value_start kind) × (N.value_length kind bytes ≡ N.slice_index bytes 0))
 int4_start _ number counted _ = grind arith
 

@@ -10,7 +10,7 @@ use Rattle.tds_columns.specs.Description.{Column}
 use Rattle.tds_text.specs.Quoting.{after_comma, in_line}
 use Rattle.tds_values.specs.declared.charset.Charset.{Charset}
 use Rattle.tds_values.specs.declared.span.Span.{Span}
-use Rattle.tds_cells.specs.LongFields.{IsShapeLeft, long_size, reach_of}
+use Rattle.tds_cells.specs.LongFields.{IsLongLeft, long_size, reach_of}
 use Rattle.tds_cells.specs.WholeCells.{IsCellSpan, WritesCell, WritesWhole}
 use Rattle.tds_cells.specs.Cells.{CellPart, WholeCell, cell, cell_start, field, field_so_far, shape}
 
@@ -46,13 +46,9 @@ abbrev pub is_counted : Kind → Bool
 is_counted (IntN n) = true
 is_counted kind = false
 
--- The values of this kind are whole numbers of four bytes.
-abbrev pub IsInt4 : Kind → Type 0
-IsInt4 kind = is_int4 kind ≡ true
-
 -- A whole number of four bytes is the value of the cell at the front of these bytes, so far after it.
 pub record HasInt4 (kind : Kind) (start : ℕ) (bytes : List ℕ) : Type 0 where
-  pub number : IsInt4 kind
+  pub number : is_int4 kind ≡ true
   pub starts : start ≡ value_start kind
   pub four : value_length kind bytes ≡ 4
   pub within : start + 4 ≤ length bytes
@@ -69,7 +65,7 @@ IsScalarLeft kind bytes = (length bytes < scalar_size kind bytes)
 -- The cell at the front of these bytes is left, with this much room.
 abbrev pub IsLeft : Charset → Kind → List ℕ → ℕ → Type 0
 IsLeft charset kind bytes room =
-    ((is_scalar kind ≡ true) × IsScalarLeft kind bytes) ⊎ ((is_scalar kind ≡ false) × IsShapeLeft (shape charset kind) bytes room)
+    ((is_scalar kind ≡ true) × IsScalarLeft kind bytes) ⊎ ((is_scalar kind ≡ false) × IsLongLeft (shape charset kind) bytes room)
 
 -- The bytes are a whole cell of a kind, and this is its text in its line; that of a scalar, in any set, comes only with the last element.
 pub record WritesKind (charset : Charset) (kind : Kind) (column : ℕ) (last : Bool) (bytes text : List ℕ) : Type 0 where

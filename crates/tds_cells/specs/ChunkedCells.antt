@@ -5,32 +5,21 @@ use Rattle.tds_text.specs.Conversion.{Conversion, is_fit}
 use Rattle.tds_text.specs.Fields.{field_room}
 use Rattle.tds_cells.specs.Cells.{null_total, unknown_total}
 
--- the total before a value in chunks
-abbrev pub stated_total : List ℕ → ℕ
-stated_total bytes = little_number 8 bytes
-
--- the length of its first chunk
-abbrev pub chunk_length : List ℕ → ℕ
-chunk_length bytes = little_number 4 (drop 8 bytes)
-
--- the data of so many bytes in its first chunk
-abbrev pub chunk_data : ℕ → List ℕ → List ℕ
-chunk_data n bytes = take n (drop 12 bytes)
-
 -- how many bytes a cell has whose data are so many in one chunk, or none: the total, the chunk's length, the data and the terminator, or the total and
 -- the terminator
 abbrev pub chunk_end : ℕ → ℕ
 chunk_end n = if n == 0 then 12 else 16 + n
 
--- how many bytes the cell at the front of these bytes has, if it is in one chunk at most
+-- how many bytes the cell at the front of these bytes has, if it is in one chunk at most: after its total of eight bytes, unless that is NULL's, come
+-- the four of a chunk's length
 abbrev pub chunked_size : List ℕ → ℕ
-chunked_size bytes = if stated_total bytes == null_total then 8 else chunk_end (chunk_length bytes)
+chunked_size bytes = if little_number 8 bytes == null_total then 8 else chunk_end (little_number 4 (drop 8 bytes))
 
 -- A value of so many bytes is whole at the front of these, in one chunk, or in none if it is empty. Its total is this number or an unknown one, and
 -- the terminator follows.
 pub record HasOneChunk (bytes : List ℕ) (n : ℕ) : Type 0 where
-  pub total : (stated_total bytes ≡ unknown_total) ⊎ (stated_total bytes ≡ n)
-  pub counted : n ≡ chunk_length bytes
+  pub total : (little_number 8 bytes ≡ unknown_total) ⊎ (little_number 8 bytes ≡ n)
+  pub counted : n ≡ little_number 4 (drop 8 bytes)
   pub few : n ≤ 65535
   pub within : chunk_end n ≤ length bytes
   pub ended : 0 < n → little_number 4 (drop (12 + n) bytes) ≡ 0
@@ -38,5 +27,5 @@ pub record HasOneChunk (bytes : List ℕ) (n : ℕ) : Type 0 where
 -- The value in chunks at the front of these bytes is left for another way: it isn't NULL with four bytes after it, and if it is whole in one chunk at
 -- most, it may want more room than there is, or its data isn't whole text.
 pub record IsChunkedLeft (c : Conversion) (bytes : List ℕ) (room : ℕ) : Type 0 where
-  pub some : 12 ≤ length bytes → stated_total bytes ≢ null_total
-  pub one : (n : ℕ) → HasOneChunk bytes n → (room < 1 + field_room c n) ⊎ (is_fit c (chunk_data n bytes) ≡ false)
+  pub some : 12 ≤ length bytes → little_number 8 bytes ≢ null_total
+  pub one : (n : ℕ) → HasOneChunk bytes n → (room < 1 + field_room c n) ⊎ (is_fit c (take n (drop 12 bytes)) ≡ false)

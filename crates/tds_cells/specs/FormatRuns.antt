@@ -8,8 +8,8 @@ use Rattle.tds_cells.specs.declared.layout.CellFormat.{CellFormat}
 use Rattle.tds_cells.specs.declared.whole.TheConstants.{CELL_ROOM}
 use Rattle.tds_cells.specs.declared.run.formats.FormatsRun.{FormatsRun}
 use Rattle.tds_values.specs.declared.span.Span.{Span}
-use Rattle.tds_cells.specs.CellTexts.{IsLeft, IsScalarLeft, WritesField, WritesKind, whole_size}
-use Rattle.tds_cells.specs.Formats.{AreCounted, AreInt4}
+use Rattle.tds_cells.specs.CellTexts.{IsLeft, IsScalarLeft, WritesField, WritesKind, is_counted, is_int4, whole_size}
+use Rattle.tds_cells.specs.Formats.{Each}
 use Rattle.tds_cells.specs.MarkedRuns.{WritesMarked}
 use Rattle.tds_cells.specs.RowFormats.{BeginsRow, kinds}
 
@@ -31,12 +31,6 @@ abbrev pub FirstLeft : Charset → List CellFormat → List ℕ → ℕ → Type
 FirstLeft charset formats bytes room = (format : CellFormat) (rest : List CellFormat) → formats ≡ format ∷ rest
     → (room < CELL_ROOM) ⊎ IsLeft charset format.kind bytes room
 
--- Only the first cell was used, with all its bytes, and this is its text in its line.
-abbrev pub FirstWritten : Charset → List CellFormat → ℕ → Bool → List ℕ → List ℕ → FormatsRun → Type 0
-FirstWritten charset formats column ends bytes text run = (format : CellFormat) (rest : List CellFormat) → formats ≡ format ∷ rest
-    → (run.used ≡ whole_size format.kind bytes)
-    × WritesKind charset format.kind column (ends && (1 == length formats)) (take run.used bytes) (take run.made text)
-
 -- The bytes are the cells of this number of formats, and these are their fields after one another, each after its comma.
 abbrev pub WritesFormats : Charset → List CellFormat → ℕ → ℕ → List ℕ → List ℕ → Type 0
 WritesFormats charset formats column zero bytes text = (bytes ≡ []) × (text ≡ [])
@@ -44,47 +38,37 @@ WritesFormats charset formats column (suc n) bytes text = (front : List ℕ) × 
     × (bytes ≡ front ++ rest) × (text ≡ before ++ after_comma (column + n) field) × WritesFormats charset formats column n front before
     × ((format : CellFormat) → WritesField charset (get_or formats n format).kind rest field)
 
--- A run wrote the fields of the bytes that it used, and the comma of the next one.
-abbrev pub FieldsWritten : Charset → List CellFormat → ℕ → List ℕ → List ℕ → FormatsRun → Type 0
-FieldsWritten charset formats column bytes text run = (fields : List ℕ) × WritesFormats charset formats column run.cells (take run.used bytes) fields
-    × (take run.made text ≡ fields ++ after_comma (column + run.cells) [])
-
--- A run wrote the fields of the first cells and the comma after them, with room for the end of the line.
+-- A run wrote the fields of the first cells, whose bytes it used, and the comma after them, with room for the end of the line.
 pub record WritesFields (charset : Charset) (formats : List CellFormat) (column : ℕ) (bytes text : List ℕ) (run : FormatsRun) : Type 0 where
   pub within : IsWithin run (length formats) (length bytes) (length text)
   pub room : 0 < run.cells → (0 < run.made) × (run.made < length text)
   pub one : run.cells ≡ 1 → (format : CellFormat) (rest : List CellFormat) → formats ≡ format ∷ rest → run.used ≡ whole_size format.kind bytes
-  pub fields : FieldsWritten charset formats column bytes text run
+  pub fields : List ℕ
+  pub writes : WritesFormats charset formats column run.cells (take run.used bytes) fields
+  pub text_is : take run.made text ≡ fields ++ after_comma (column + run.cells) []
 
 -- So many cells of whole numbers of four bytes are there with all their bytes and one more, and with room for their fields and the end of the line.
 pub record NumbersWithin (cells bytes room : ℕ) : Type 0 where
   pub whole : 5 * cells < bytes
   pub fits : 12 * cells + 25 < room
 
--- A row of so many numbers that begins no later has all its bytes, one more, and room.
-pub record IsLatest (cells bytes room : ℕ) (latest : Span) : Type 0 where
-  pub used : latest.used + 5 * cells + 1 ≡ bytes
-  pub made : latest.made + 12 * cells + 26 ≡ room
-
 -- The values of these formats' kinds are whole numbers of four bytes, all after their lengths if they are counted, which are there with their bytes and
 -- room.
 pub record AreNumbers (counted : Bool) (formats : List CellFormat) (bytes room : ℕ) : Type 0 where
-  pub numbers : AreInt4 formats
-  pub lengths : counted ≡ true → AreCounted formats
+  pub numbers : Each (λ f. is_int4 f.kind ≡ true) formats
+  pub lengths : counted ≡ true → Each (λ f. is_counted f.kind ≡ true) formats
   pub within : NumbersWithin (length formats) bytes room
 
--- A run wrote the text of the bytes that it used, which are the next cells.
-abbrev pub FormatsWritten : Charset → List CellFormat → ℕ → Bool → List ℕ → List ℕ → FormatsRun → Type 0
-FormatsWritten charset formats column ends bytes text run = (columns : List Column) → AreNext formats ends (drop column columns) →
-    WritesMarked charset columns (λ k. false) column run.cells (take run.used bytes) (take run.made text)
-
--- A run over cells by their formats did so much: it wrote the text of what it used, and left the first cell if it wrote none.
+-- A run over cells by their formats did so much: it wrote the text of the bytes that it used, which are the next cells, and left the first cell if it
+-- wrote none.
 pub record RunsFormats (charset : Charset) (formats : List CellFormat) (column : ℕ) (last : Bool) (bytes : List ℕ) (room : ℕ) (text : List ℕ)
     (run : FormatsRun) : Type 0 where
   pub within : IsWithin run (length formats) (length bytes) room
   pub ends : run.cells ≡ 0 → FirstLeft charset formats bytes room
-  pub one : run.cells ≡ 1 → FirstWritten charset formats column last bytes text run
-  pub cells : FormatsWritten charset formats column last bytes text run
+  pub one : run.cells ≡ 1 → (format : CellFormat) (rest : List CellFormat) → formats ≡ format ∷ rest → (run.used ≡ whole_size format.kind bytes)
+      × WritesKind charset format.kind column (last && (1 == length formats)) (take run.used bytes) (take run.made text)
+  pub cells : (columns : List Column) → AreNext formats last (drop column columns)
+      → WritesMarked charset columns (λ k. false) column run.cells (take run.used bytes) (take run.made text)
 
 -- what a run did that began in these bytes and this text
 abbrev pub run_since : Span → FormatsRun → FormatsRun

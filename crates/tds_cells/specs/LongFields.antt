@@ -24,20 +24,16 @@ abbrev pub long_size : Reach → List ℕ → ℕ
 long_size Short bytes = short_size bytes
 long_size Chunked bytes = chunked_size bytes
 
--- The long value at the front of these bytes is left for another way, with this much room.
-abbrev pub IsLongLeft : Conversion → Reach → List ℕ → ℕ → Type 0
-IsLongLeft c Short bytes room = IsShortLeft c bytes room
-IsLongLeft c Chunked bytes room = IsChunkedLeft c bytes room
-
--- The same of a value of this shape, if it is a long one.
-abbrev pub IsShapeLeft : Shape → List ℕ → ℕ → Type 0
-IsShapeLeft (LongShape c reach) bytes room = IsLongLeft c reach bytes room
-IsShapeLeft other bytes room = Unit {0}
+-- The value of this shape at the front of these bytes is left for another way, with this much room, if it is a long one.
+abbrev pub IsLongLeft : Shape → List ℕ → ℕ → Type 0
+IsLongLeft (LongShape c Short) bytes room = IsShortLeft c bytes room
+IsLongLeft (LongShape c Chunked) bytes room = IsChunkedLeft c bytes room
+IsLongLeft other bytes room = Unit {0}
 
 -- The field of a long value of this conversion, whose cell is at the front of these bytes, was written to the front of others, with room for a comma
 -- before it and the end of a line after it; or it is left.
 abbrev pub LongWritten : Conversion → Reach → List ℕ → ℕ → List ℕ → Option Span → Type 0
-LongWritten c reach bytes room text result = MatchOption result (IsLongLeft c reach bytes room)
+LongWritten c reach bytes room text result = MatchOption result (IsLongLeft (LongShape c reach) bytes room)
     (λ written. IsCellSpan (long_size reach bytes) (length bytes) (room - 3) written × ((column : ℕ) (last : Bool) →
     WritesWhole (long_start c reach) column last (take written.used bytes) (in_line column last (take written.made text))))
 

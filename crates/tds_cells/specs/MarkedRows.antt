@@ -2,13 +2,11 @@
 use Rattle.std.specs.Prelude.{◌≡◌, ◌⊎◌, ◌-◌, ◌<◌, ℕ, zero, suc, Bool, false, true, List, [], ◌∷◌, ◌++◌, length, take, drop}
 use Rattle.tds_values.specs.declared.charset.Charset.{Charset}
 use Rattle.tds_columns.specs.Description.{Column}
-use Rattle.tds_cells.specs.declared.nulls.WholeRows.{WholeRows}
 use Rattle.tds_cells.specs.declared.row_format.Cursor.{Cursor}
 use Rattle.tds_cells.specs.declared.row_format.RowFormat.{RowFormat}
-use Rattle.tds_cells.specs.MarkedRuns.{CellRun, EndsFar, MarkedWritten, WritesMarked}
+use Rattle.tds_cells.specs.MarkedRuns.{CellsWritten, EndsFar, WritesMarked}
 use Rattle.tds_cells.specs.Rows.{NbcRow, bit, bitmap_length, token_byte}
 use Rattle.tds_cells.specs.Rows.{BeginNoRow}
-use Rattle.tds_cells.specs.RowFormats.{Knows}
 
 -- The bytes are the bitmap and the cells of an NBCROW, and this is its line.
 pub record WritesNbcRow (charset : Charset) (columns : List Column) (bytes text : List ℕ) : Type 0 where
@@ -31,15 +29,10 @@ WritesWholeRows charset columns n false bytes text = WritesNbcRows charset colum
 WritesWholeRows charset columns n true bytes text = (front : List ℕ) × (row : List ℕ) × (before : List ℕ) × (line : List ℕ)
     × (bytes ≡ front ++ row) × (text ≡ before ++ line) × WritesNbcRows charset columns n front before × WritesNbcRow charset columns row line
 
--- A run wrote the lines of the NBCROWs that it used.
-abbrev pub NbcRowsWritten : RowFormat → List ℕ → List ℕ → WholeRows → Type 0
-NbcRowsWritten row_format bytes text run = (columns : List Column) → Knows row_format columns →
-    WritesWholeRows row_format.charset columns run.span.rows run.last (take run.span.used bytes) (take run.span.made text)
-
 -- No NBCROW follows the last one; or the next one can't be written so: its bitmap isn't whole, or the run over its cells ends before the row does.
 abbrev pub EndsNbcRows : RowFormat → ℕ → Bool → List ℕ → ℕ → Type 0
 EndsNbcRows row_format size true bytes room = BeginNoRow NbcRow bytes
-EndsNbcRows row_format size false bytes room = (length bytes < size) ⊎ ((from : Cursor) × (run : CellRun) × (text : List ℕ) × (from.column ≡ 0)
-    × MarkedWritten row_format (bit (take size bytes)) from (drop size bytes) text run
-    × EndsFar row_format (bit (take size bytes)) run.ahead (drop run.used (drop size bytes)) (room - run.made)
-    × (run.ahead.column ≡ row_format.count → ⊥))
+EndsNbcRows row_format size false bytes room = (length bytes < size) ⊎ ((from : Cursor) × (to : Cursor) × (used : ℕ) × (text : List ℕ) × (from.column ≡ 0)
+    × CellsWritten row_format (bit (take size bytes)) from to (take used (drop size bytes)) text
+    × EndsFar row_format (bit (take size bytes)) to (drop used (drop size bytes)) (room - length text)
+    × (to.column ≡ row_format.count → ⊥))

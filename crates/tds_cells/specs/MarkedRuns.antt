@@ -4,7 +4,6 @@ use Rattle.tds_values.specs.declared.kind.Kind.{Kind}
 use Rattle.tds_columns.specs.Description.{Column}
 use Rattle.tds_text.specs.Quoting.{in_line, null_field}
 use Rattle.tds_values.specs.declared.charset.Charset.{Charset}
-use Rattle.tds_values.specs.declared.span.Span.{Span}
 use Rattle.tds_cells.specs.declared.whole.TheConstants.{CELL_ROOM, LOOKAHEAD}
 use Rattle.tds_cells.specs.declared.nulls.Nulls.{Nulls}
 use Rattle.tds_cells.specs.declared.nulls.Nulls.TheVariants.{Unmarked, Marked}
@@ -30,33 +29,20 @@ abbrev pub Covers : Nulls → ℕ → Type 0
 Covers Unmarked count = ⊤
 Covers (Marked bitmap) count = count ≤ 8 * length bitmap.now
 
--- what a run within a row did: how many bytes it used, how many it made, and where it ended
-pub record CellRun : Type 0 where
-  pub used : ℕ
-  pub made : ℕ
-  pub ahead : Cursor
-
-abbrev pub cell_run : Span → Cursor → CellRun
-cell_run span at = record { used = span.used; made = span.made; ahead = at }
-
 -- This is a cell's text in its line: that of NULL, which has no bytes, if that is its bit, and of the cell that the bytes are if it isn't.
 abbrev pub WritesNext : Charset → Bool → Kind → ℕ → Bool → List ℕ → List ℕ → Type 0
 WritesNext charset true kind column last bytes text = (bytes ≡ []) × (text ≡ in_line column last null_field)
 WritesNext charset false kind column last bytes text = WritesWhole (cell_start kind (shape charset kind)) column last bytes text
 
--- The columns from one up to another aren't NULL by their bit.
-abbrev pub AreClear : (ℕ → Bool) → ℕ → ℕ → Type 0
-AreClear nulls from end = (k : ℕ) → from ≤ k → k < end → nulls k ≡ false
-
--- The columns from one up to another are NULL by their bit.
-abbrev pub AreSet : (ℕ → Bool) → ℕ → ℕ → Type 0
-AreSet nulls from end = (k : ℕ) → from ≤ k → k < end → nulls k ≡ true
+-- The columns from one up to another are all NULL by their bit, or none is.
+abbrev pub BitsAre : Bool → (ℕ → Bool) → ℕ → ℕ → Type 0
+BitsAre null nulls from end = (k : ℕ) → from ≤ k → k < end → nulls k ≡ null
 
 -- The columns from one up to another, of this number, aren't NULL by their bit; that one, if there is one, is.
 pub record EndsClear (nulls : ℕ → Bool) (from count end : ℕ) : Type 0 where
   pub least : from ≤ end
   pub most : end ≤ count
-  pub clear : AreClear nulls from end
+  pub clear : BitsAre false nulls from end
   pub set : end < count → nulls end ≡ true
 
 -- The bytes are the cell of the column after this number of them, none if it is NULL by its bit, and this is its text in its line.
@@ -100,13 +86,7 @@ EndsLeft row_format nulls at bytes room = (columns : List Column) (column : Colu
 abbrev pub EndsFar : RowFormat → (ℕ → Bool) → Cursor → List ℕ → ℕ → Type 0
 EndsFar row_format nulls at bytes room = (length bytes < LOOKAHEAD) ⊎ ((room < CELL_ROOM) ⊎ EndsLeft row_format nulls at bytes room)
 
--- A run wrote the text of the cells between two places, whose bytes it used.
-abbrev pub MarkedWritten : RowFormat → (ℕ → Bool) → Cursor → List ℕ → List ℕ → CellRun → Type 0
-MarkedWritten row_format nulls from bytes text run = (columns : List Column) → Knows row_format columns → IsCursor row_format columns from →
-    RunsMarked row_format columns nulls from run.ahead (take run.used bytes) (take run.made text)
-
--- A run used and made no more than there is, and ended where no more could be taken.
-pub record EndsMarked (row_format : RowFormat) (nulls : ℕ → Bool) (bytes : List ℕ) (room : ℕ) (run : CellRun) : Type 0 where
-  pub used : run.used ≤ length bytes
-  pub made : run.made ≤ room
-  pub left : EndsLeft row_format nulls run.ahead (drop run.used bytes) (room - run.made)
+-- These bytes were used and this text was written: those of the cells between two places of a row, whatever the columns that its row format knows.
+abbrev pub CellsWritten : RowFormat → (ℕ → Bool) → Cursor → Cursor → List ℕ → List ℕ → Type 0
+CellsWritten row_format nulls from to bytes text = (columns : List Column) → Knows row_format columns → IsCursor row_format columns from →
+    RunsMarked row_format columns nulls from to bytes text

@@ -5,8 +5,8 @@ use Rattle.tds_columns.specs.Description.{Column}
 use Rattle.tds_columns.specs.Walking.{columns_left}
 use Rattle.tds_columns.specs.declared.walk.Walk.{Walk}
 use Rattle.std.specs.List.{list_all}
-use Rattle.tds_cells.specs.CellTexts.{is_counted, is_int4, is_last_column}
-use Rattle.tds_cells.specs.Formats.{AreCounted, AreInt4, AreLaidOut}
+use Rattle.tds_cells.specs.CellTexts.{is_counted, is_int4}
+use Rattle.tds_cells.specs.Formats.{AreLaidOut, Each}
 use Rattle.tds_cells.specs.declared.row_format.Learnt.{Learnt}
 use Rattle.tds_values.specs.declared.charset.Charset.{Charset}
 use Rattle.tds_cells.specs.declared.row_format.Cursor.{Cursor}
@@ -30,8 +30,8 @@ pub record Learns (columns : List Column) (charset : Charset) (formats : List Ce
   pub few : learnt.known ≤ length columns
   pub first : map (λ f. f.kind) (take learnt.known formats) ≡ kinds (take learnt.known columns)
   pub laid : AreLaidOut charset formats
-  pub numbers : learnt.only_numbers ≡ true → AreInt4 formats
-  pub counted : learnt.only_counted ≡ true → AreCounted formats
+  pub numbers : learnt.only_numbers ≡ true → Each (λ f. is_int4 f.kind ≡ true) formats
+  pub counted : learnt.only_counted ≡ true → Each (λ f. is_counted f.kind ≡ true) formats
   pub all : (learnt.known ≡ length formats) ⊎ (learnt.known ≡ length columns)
   pub numbers_are : learnt.only_numbers ≡ list_all (λ c. is_int4 c.kind) (take learnt.known columns)
   pub counted_are : learnt.only_counted ≡ list_all (λ c. is_counted c.kind) (take learnt.known columns)
@@ -67,10 +67,6 @@ pub record NextColumn (columns : List Column) (at : Cursor) (next_kind : Kind) :
   pub next : drop at.column columns ≡ column ∷ rest
   pub kind : next_kind ≡ column.kind
 
--- This is the kind of the next column, or none is ahead.
-abbrev pub NextFormat : List Column → Cursor → Option CellFormat → Type 0
-NextFormat columns at result = MatchOption result (drop at.column columns ≡ []) (λ format. NextColumn columns at format.kind)
-
 -- A column was taken, the next one ahead, and this is its kind.
 pub record TakesColumn (row_format : RowFormat) (columns : List Column) (old new : Cursor) (next_kind : Kind) : Type 0 where
   pub column : Column
@@ -78,10 +74,6 @@ pub record TakesColumn (row_format : RowFormat) (columns : List Column) (old new
   pub kind : next_kind ≡ column.kind
   pub further : new.column ≡ old.column + 1
   pub ahead : IsCursor row_format columns new
-
--- The next column was taken, or none is ahead.
-abbrev pub TakesFormat : RowFormat → List Column → Cursor → Option (CellFormat × Cursor) → Type 0
-TakesFormat row_format columns at result = MatchOption result (drop at.column columns ≡ []) (λ taken. TakesColumn row_format columns at taken.1 taken.0.kind)
 
 -- The formats are those of the next columns of a row, none after this number: several that the row format knows, or only one.
 pub record AreAtCursor (row_format : RowFormat) (at : Cursor) (end : ℕ) (formats : List CellFormat) : Type 0 where
@@ -91,14 +83,3 @@ pub record AreAtCursor (row_format : RowFormat) (at : Cursor) (end : ℕ) (forma
   pub known : (at.column + length formats ≤ row_format.known) ⊎ (length formats ≡ 1)
   pub next : (columns : List Column) → Knows row_format columns → IsCursor row_format columns at
       → map (λ f. f.kind) formats ≡ kinds (take (length formats) (drop at.column columns))
-
--- This is the kind of the next column ahead, of columns that the row format knows, and so it is with the last one.
-pub record IsNextKind (row_format : RowFormat) (at : Cursor) (next_kind : Kind) (is_end : Bool) : Type 0 where
-  pub columns : List Column
-  pub knows : Knows row_format columns
-  pub ahead : IsCursor row_format columns at
-  pub column : Column
-  pub rest : List Column
-  pub next : drop at.column columns ≡ column ∷ rest
-  pub kind : next_kind ≡ column.kind
-  pub last : is_end ≡ is_last_column rest

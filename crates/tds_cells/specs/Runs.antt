@@ -7,7 +7,7 @@ use Rattle.tds_packet.specs.declared.fault.Fault.TheVariants.{MessageEnded, Refu
 use Rattle.tds_packet.specs.Elements.{Grammar, Spelt}
 use Rattle.tds_columns.specs.Description.{Column}
 use Rattle.tds_columns.specs.declared.walk.Walk.{Walk}
-use Rattle.tds_text.specs.Quoting.{after_comma, line}
+use Rattle.tds_text.specs.Quoting.{line}
 use Rattle.tds_values.specs.declared.charset.Charset.{Charset}
 use Rattle.tds_values.specs.declared.span.Span.{Span}
 use Rattle.tds_cells.specs.declared.run.RowsSpan.{RowsSpan}
@@ -20,10 +20,10 @@ use Rattle.tds_cells.specs.declared.row_format.RowFormat.{RowFormat}
 use Rattle.tds_cells.specs.Cells.{Cell, field}
 use Rattle.tds_cells.specs.Rows.{PlainRow, RowPart, RowToken, WholeRow, marked, next_cell, row_add, row_fault, row_size, row_so_far, token_byte}
 use Rattle.tds_cells.specs.Rows.{bit, token_start}
-use Rattle.tds_cells.specs.MarkedRuns.{CellRun, EndsFar, EndsLeft, MarkedWritten}
+use Rattle.tds_cells.specs.MarkedRuns.{CellsWritten, EndsLeft}
 use Rattle.tds_cells.specs.CellTexts.{IsLeft, WritesKind, whole_size}
 use Rattle.tds_cells.specs.WholeCells.{IsCellSpan}
-use Rattle.tds_cells.specs.RowFormats.{BeginsRow, IsCursor, Knows, place}
+use Rattle.tds_cells.specs.RowFormats.{IsCursor, Knows, place}
 
 -- The bytes are whole elements, which lead from one state to another, and this is what the text of the second has more than that of the first.
 pub record Writes {S : Type 0} (g : Grammar S Fault) (text : S → List ℕ) (from : S) (bytes made : List ℕ) (to : S) : Type 0 where
@@ -91,37 +91,19 @@ pub record WritesRows (charset : Charset) (all : List Column) (cells : List Cell
 
 -- ---- what a run gives, whatever the columns that its row format knows, and whatever the cells before it
 
--- what a run over rows did: how many bytes it used, how many it made, how many rows it began, and where it ended
-pub record RowsRun : Type 0 where
-  pub used : ℕ
-  pub made : ℕ
-  pub rows : ℕ
-  pub ahead : Cursor
-
-abbrev pub rows_run : RowsSpan → Cursor → RowsRun
-rows_run span at = record { used = span.used; made = span.made; rows = span.rows; ahead = at }
-
 -- A run within a row used and made no more than there is, went on if it used a byte and stayed if it used none, and not beyond its end.
-pub record StaysWithin (from : Cursor) (end bytes room : ℕ) (run : CellRun) : Type 0 where
+pub record StaysWithin (from to : Cursor) (end bytes room : ℕ) (run : Span) : Type 0 where
   pub used : run.used ≤ bytes
   pub made : run.made ≤ room
-  pub further : 0 < run.used → from.column < run.ahead.column
-  pub stays : run.used ≡ 0 → run.ahead ≡ from
-  pub before : from.column ≤ end → run.ahead.column ≤ end
-
--- A run ended at the row's end, without room for every scalar, or before a cell that is left.
-abbrev pub RunEnds : RowFormat → Cursor → List ℕ → ℕ → Type 0
-RunEnds row_format at bytes room = EndsLeft row_format (λ k. false) at bytes room
+  pub further : 0 < run.used → from.column < to.column
+  pub stays : run.used ≡ 0 → to ≡ from
+  pub before : from.column ≤ end → to.column ≤ end
 
 -- A run within a row that ended before this column ended before a cell that is left, or without room for every scalar.
-abbrev pub LeavesNext : RowFormat → Cursor → ℕ → List ℕ → ℕ → CellRun → Type 0
-LeavesNext row_format from until bytes room run = (columns : List Column) (column : Column) (left : List Column) → Knows row_format columns
-    → IsCursor row_format columns from → run.ahead.column < until → drop run.ahead.column columns ≡ column ∷ left →
-    (room - run.made < CELL_ROOM) ⊎ IsLeft row_format.charset column.kind (drop run.used bytes) (room - run.made)
-
--- A run that ended at a row's end is followed by no ROW.
-abbrev pub EndsLast : RowFormat → ℕ → List ℕ → Type 0
-EndsLast row_format column bytes = column ≡ row_format.count → BeginsRow bytes → ⊥
+abbrev pub LeavesNext : RowFormat → Cursor → Cursor → ℕ → List ℕ → ℕ → Type 0
+LeavesNext row_format from to until bytes room = (columns : List Column) (column : Column) (left : List Column) → Knows row_format columns
+    → IsCursor row_format columns from → to.column < until → drop to.column columns ≡ column ∷ left →
+    (room < CELL_ROOM) ⊎ IsLeft row_format.charset column.kind bytes room
 
 -- The cell of this kind at the front of these bytes was written, and its text in its line; or it is left, with this much room.
 abbrev pub AloneWritten : Charset → Kind → ℕ → Bool → List ℕ → ℕ → List ℕ → Option Span → Type 0
@@ -129,58 +111,36 @@ AloneWritten charset kind column last bytes room text result =
     MatchOption result (IsLeft charset kind bytes room) (λ written. IsCellSpan (whole_size kind bytes) (length bytes) room written
     × WritesKind charset kind column last (take written.used bytes) (take written.made text))
 
--- A run wrote the text of the cells between two places of a row, whose bytes it used; none of them is NULL by a bit.
-abbrev pub CellsWritten : RowFormat → Cursor → List ℕ → List ℕ → CellRun → Type 0
-CellsWritten row_format from bytes text run = MarkedWritten row_format (λ k. false) from bytes text run
+-- These bytes were used and this text was written, over the ends of so many rows, between two places of rows; single-byte text was read in the row
+-- format's set.
+abbrev pub RowsWritten : RowFormat → Cursor → Cursor → ℕ → List ℕ → List ℕ → Type 0
+RowsWritten row_format from to rows bytes text = (columns : List Column) → Knows row_format columns → IsCursor row_format columns from →
+    IsCursor row_format columns to × ((charset : Charset) (cells : List Cell) → row_format.charset ≡ charset → length cells ≡ from.column →
+    WritesRows charset columns cells (drop from.column columns) (drop to.column columns) to.column rows bytes text)
 
--- A run wrote the text of the bytes that it used, over the ends of rows, and ended at a place of a row; single-byte text was read in the row format's set.
-abbrev pub RowsWritten : RowFormat → Cursor → List ℕ → List ℕ → RowsRun → Type 0
-RowsWritten row_format from bytes text run = (columns : List Column) → Knows row_format columns → IsCursor row_format columns from →
-    IsCursor row_format columns run.ahead × ((charset : Charset) (cells : List Cell) → row_format.charset ≡ charset → length cells ≡ from.column →
-    WritesRows charset columns cells (drop from.column columns) (drop run.ahead.column columns) run.ahead.column run.rows (take run.used bytes)
-    (take run.made text))
+-- These bytes were used and this text was written: of a row with a bitmap, within it, and else over the ends of so many rows.
+abbrev pub RunWritten : RowFormat → Nulls → Cursor → Cursor → ℕ → List ℕ → List ℕ → Type 0
+RunWritten row_format Unmarked from to rows bytes text = RowsWritten row_format from to rows bytes text
+RunWritten row_format (Marked bitmap) from to rows bytes text = (rows ≡ 0) × CellsWritten row_format (bit bitmap.now) from to bytes text
 
--- A run wrote the text of the cells that it used: of a row with a bitmap, within it, and else over the ends of rows.
-abbrev pub RunWritten : RowFormat → Nulls → Cursor → List ℕ → List ℕ → RowsRun → Type 0
-RunWritten row_format Unmarked from bytes text run = RowsWritten row_format from bytes text run
-RunWritten row_format (Marked bitmap) from bytes text run = (run.rows ≡ 0)
-    × MarkedWritten row_format (bit bitmap.now) from bytes text (record { used = run.used; made = run.made; ahead = run.ahead })
-
--- It used and made no more than there is, and began fewer rows than it used bytes.
-pub record Ran (row_format : RowFormat) (nulls : Nulls) (from : Cursor) (bytes text : List ℕ) (run : RowsRun) : Type 0 where
+-- A run between two places used and made no more than there is, began fewer rows than it used bytes, and wrote the text of these.
+pub record Ran (row_format : RowFormat) (nulls : Nulls) (from to : Cursor) (bytes text : List ℕ) (run : RowsSpan) : Type 0 where
   pub used : run.used ≤ length bytes
   pub made : run.made ≤ length text
   pub few : run.rows ≤ run.used
-  pub writes : RunWritten row_format nulls from bytes text run
-
--- A run ended so: at the row's end, without room for every scalar, or before a cell that is left; and if it goes over the ends of rows, not at one that a
--- ROW follows.
-abbrev pub EndsRun : RowFormat → Nulls → Cursor → List ℕ → ℕ → Type 0
-EndsRun row_format Unmarked at bytes room = RunEnds row_format at bytes room × EndsLast row_format at.column bytes
-EndsRun row_format (Marked bitmap) at bytes room = EndsLeft row_format (bit bitmap.now) at bytes room
+  pub writes : RunWritten row_format nulls from to run.rows (take run.used bytes) (take run.made text)
 
 -- A run within a row ended so: with a bitmap as one over rows does, and else so if it used no byte, and before the columns that the row format knows.
-abbrev pub EndsInRow : RowFormat → Nulls → Cursor → List ℕ → ℕ → CellRun → Type 0
-EndsInRow row_format Unmarked from bytes room run = (run.used ≡ 0 → from.column < row_format.count → RunEnds row_format from bytes room)
-    × LeavesNext row_format from (min row_format.known row_format.count) bytes room run
-EndsInRow row_format (Marked bitmap) from bytes room run = EndsLeft row_format (bit bitmap.now) run.ahead (drop run.used bytes) (room - run.made)
+abbrev pub EndsInRow : RowFormat → Nulls → Cursor → Cursor → List ℕ → ℕ → Span → Type 0
+EndsInRow row_format Unmarked from to bytes room run =
+    (run.used ≡ 0 → from.column < row_format.count → EndsLeft row_format (λ k. false) from bytes room)
+    × LeavesNext row_format from to (min row_format.known row_format.count) (drop run.used bytes) (room - run.made)
+EndsInRow row_format (Marked bitmap) from to bytes room run = EndsLeft row_format (bit bitmap.now) to (drop run.used bytes) (room - run.made)
 
 -- A run over rows all of whose columns the row format knows did so from this column on, whatever the walk.
 pub record KnownRan (row_format : RowFormat) (column : ℕ) (bytes text : List ℕ) (run : KnownRun) : Type 0 where
   pub used : run.used ≤ length bytes
   pub made : run.made ≤ length text
   pub few : run.rows ≤ run.used
-  pub writes : (walk : Walk) → RowsWritten row_format (place walk column) bytes text
-      (record { used = run.used; made = run.made; rows = run.rows; ahead = place walk run.column })
-
--- how many bytes the comma before a column's field has
-abbrev pub comma_size : ℕ → ℕ
-comma_size column = length (after_comma column [])
-
--- Such a run ended before this column as other runs do, whatever the walk.
-abbrev pub KnownEnds : RowFormat → ℕ → List ℕ → ℕ → Type 0
-KnownEnds row_format column bytes room = (walk : Walk) → RunEnds row_format (place walk column) bytes room
-
--- It ended so, or where bytes or room are too few for any scalar.
-abbrev pub KnownFarEnds : RowFormat → ℕ → List ℕ → ℕ → Type 0
-KnownFarEnds row_format column bytes room = (walk : Walk) → EndsFar row_format (λ k. false) (place walk column) bytes room
+  pub writes : (walk : Walk)
+      → RowsWritten row_format (place walk column) (place walk run.column) run.rows (take run.used bytes) (take run.made text)

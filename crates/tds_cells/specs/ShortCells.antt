@@ -15,12 +15,8 @@ data_length bytes = if stated_length bytes == 0xFFFF then 0 else stated_length b
 abbrev pub short_size : List ℕ → ℕ
 short_size bytes = 2 + data_length bytes
 
--- its data
-abbrev pub short_data : List ℕ → List ℕ
-short_data bytes = take (data_length bytes) (drop 2 bytes)
-
 -- The short value at the front of these bytes is left for another way: it isn't whole, it may want more room than there is, or its data isn't whole
 -- text.
 abbrev pub IsShortLeft : Conversion → List ℕ → ℕ → Type 0
 IsShortLeft c bytes room = (length bytes < short_size bytes)
-    ⊎ ((room < 1 + field_room c (data_length bytes)) ⊎ (is_fit c (short_data bytes) ≡ false))
+    ⊎ ((room < 1 + field_room c (data_length bytes)) ⊎ (is_fit c (take (data_length bytes) (drop 2 bytes)) ≡ false))

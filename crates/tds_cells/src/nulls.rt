@@ -1,10 +1,12 @@
 // Cells of NBCROWs that are whole in the packet or NULL by their bit (MS-TDS, NBCROW).
-ghost use Rattle.std.specs.Prelude.{true, ◌≡◌, ◌+◌, ◌-◌, ◌*◌, ◌<◌, ◌≤◌, drop, length, take};
-ghost use Rattle.tds_cells.specs.MarkedRows.{EndsNbcRows, NbcRowsWritten};
-ghost use Rattle.tds_cells.specs.MarkedRuns.{AreClear, AreSet, Covers, EndsClear, EndsFar, EndsMarked, MarkedWritten, WritesNulls, cell_run, nulls_of};
-ghost use Rattle.tds_cells.specs.Runs.{EndsInRow, EndsRun, Ran, rows_run};
+ghost use Rattle.std.specs.Prelude.{true, false, List, ◌≡◌, ◌+◌, ◌-◌, ◌*◌, ◌<◌, ◌≤◌, drop, length, take};
+ghost use Rattle.tds_cells.specs.MarkedRows.{EndsNbcRows, WritesWholeRows};
+ghost use Rattle.tds_cells.specs.MarkedRuns.{BitsAre, CellsWritten, Covers, EndsClear, EndsFar, EndsLeft, WritesNulls, nulls_of};
+ghost use Rattle.tds_cells.specs.Runs.{EndsInRow, Ran};
+ghost use Rattle.tds_cells.specs.declared.nulls.Nulls.TheVariants.{Unmarked};
+ghost use Rattle.tds_columns.specs.Description.{Column};
 ghost use Rattle.tds_cells.specs.Rows.{bit, bitmap_length, longest_bitmap};
-ghost use Rattle.tds_cells.specs.RowFormats.{KnowsAll};
+ghost use Rattle.tds_cells.specs.RowFormats.{BeginsRow, Knows, KnowsAll};
 
 use crate::row_format::{Cursor, RowFormat};
 use crate::run::RowsSpan;
@@ -59,7 +61,7 @@ fn clear_end(bitmap: &[u8], from: u16, known: u16, count: u16) -> u16
     requires bitmap { count ≤ 8 * length bitmap.now }
     requires within { from ≤ count }
     requires most { known ≤ count }
-    requires clear { AreClear (bit bitmap.now) from known }
+    requires clear { BitsAre false (bit bitmap.now) from known }
     ensures { EndsClear (bit bitmap.now) from count result }
 {
     let mut at = from.max(known) as usize;
@@ -90,7 +92,7 @@ fn nulls_ahead(bitmap: &[u8], column: u16, count: u16) -> usize
     requires within { column < count }
     ensures few { result ≤ 8 }
     ensures within { column + result < count }
-    ensures set { AreSet (bit bitmap.now) column (column + result) }
+    ensures set { BitsAre true (bit bitmap.now) column (column + result) }
 {
     let bits = bitmap[column as usize / 8] as u32 >> (column % 8) as u32;
     let left = (count - 1 - column) as usize;
@@ -154,7 +156,8 @@ impl<'a> RowFormat<'a> {
         ensures made { result.made ≤ length to.old }
         ensures ends { EndsFar self.now (bit bitmap.now) at.new (drop result.used bytes.now)
             (length to.old - result.made) }
-        ensures cells { MarkedWritten self.now (bit bitmap.now) at.old bytes.now to.new (cell_run result at.new) }
+        ensures cells { CellsWritten self.now (bit bitmap.now) at.old at.new
+            (take result.used bytes.now) (take result.made to.new) }
     {
         if bytes.len() < LOOKAHEAD || to.len() < CELL_ROOM {
             return Span { used: 0, made: 0 };
@@ -197,7 +200,9 @@ impl<'a> RowFormat<'a> {
         ensures few { result.span.rows ≤ result.span.used }
         ensures ends { EndsNbcRows self.now (bitmap_length self.now.count) result.last
             (drop result.span.used bytes.now) (length to.old - result.span.made) }
-        ensures rows { NbcRowsWritten self.now bytes.now to.new result }
+        ensures rows { (columns : List Column) → Knows self.now columns →
+            WritesWholeRows self.now.charset columns result.span.rows result.last
+            (take result.span.used bytes.now) (take result.span.made to.new) }
     {
         let size = bitmap_size(self.count());
         let mut whole = RowsSpan::none();
@@ -241,8 +246,12 @@ impl<'a> RowFormat<'a> {
     ) -> Span
         requires known { KNOWN ≡ true → self.now.known ≡ self.now.count }
         requires bitmap { self.now.count ≤ 8 * length bitmap.now }
-        ensures ends { EndsMarked self.now (bit bitmap.now) bytes.now (length to.old) (cell_run result at.new) }
-        ensures cells { MarkedWritten self.now (bit bitmap.now) at.old bytes.now to.new (cell_run result at.new) }
+        ensures used { result.used ≤ length bytes.now }
+        ensures made { result.made ≤ length to.old }
+        ensures ends { EndsLeft self.now (bit bitmap.now) at.new (drop result.used bytes.now)
+            (length to.old - result.made) }
+        ensures cells { CellsWritten self.now (bit bitmap.now) at.old at.new
+            (take result.used bytes.now) (take result.made to.new) }
     {
         let mut used = 0;
         let mut made = 0;
@@ -272,8 +281,12 @@ impl<'a> RowFormat<'a> {
     #[inline(always)]
     fn run_nbc(&self, at: &mut Cursor<'a>, bitmap: &[u8], bytes: &[u8], to: &mut [u8]) -> Span
         requires bitmap { self.now.count ≤ 8 * length bitmap.now }
-        ensures ends { EndsMarked self.now (bit bitmap.now) bytes.now (length to.old) (cell_run result at.new) }
-        ensures cells { MarkedWritten self.now (bit bitmap.now) at.old bytes.now to.new (cell_run result at.new) }
+        ensures used { result.used ≤ length bytes.now }
+        ensures made { result.made ≤ length to.old }
+        ensures ends { EndsLeft self.now (bit bitmap.now) at.new (drop result.used bytes.now)
+            (length to.old - result.made) }
+        ensures cells { CellsWritten self.now (bit bitmap.now) at.old at.new
+            (take result.used bytes.now) (take result.made to.new) }
     {
         if self.knows_all() {
             return self.run_marked::<true>(at, bitmap, bytes, to);
@@ -288,8 +301,11 @@ impl<'a> RowFormat<'a> {
         requires some { 0 < self.now.count }
         requires room { CELL_ROOM ≤ length to.old }
         requires covers { Covers nulls self.now.count }
-        ensures ends { EndsRun self.now nulls.entry at.new (drop result.used bytes.now) (length to.old - result.made) }
-        ensures cells { Ran self.now nulls.entry at.old bytes.now to.new (rows_run result at.new) }
+        ensures ends { EndsLeft self.now (nulls_of nulls.entry) at.new
+            (drop result.used bytes.now) (length to.old - result.made) }
+        ensures last { nulls.entry ≡ Unmarked → at.new.column ≡ self.now.count →
+            BeginsRow (drop result.used bytes.now) → ⊥ }
+        ensures cells { Ran self.now nulls.entry at.old at.new bytes.now to.new result }
     {
         match nulls {
             Nulls::Unmarked => self.run_rows(at, bytes, to),
@@ -303,8 +319,9 @@ impl<'a> RowFormat<'a> {
         requires covers { Covers nulls self.now.count }
         ensures used { result.used ≤ length bytes.now }
         ensures made { result.made ≤ length to.old }
-        ensures ends { EndsInRow self.now nulls.entry at.old bytes.now (length to.old) (cell_run result at.new) }
-        ensures cells { MarkedWritten self.now (nulls_of nulls.entry) at.old bytes.now to.new (cell_run result at.new) }
+        ensures ends { EndsInRow self.now nulls.entry at.old at.new bytes.now (length to.old) result }
+        ensures cells { CellsWritten self.now (nulls_of nulls.entry) at.old at.new
+            (take result.used bytes.now) (take result.made to.new) }
     {
         match nulls {
             Nulls::Unmarked => self.run_cells::<false>(at, self.count(), bytes, to),

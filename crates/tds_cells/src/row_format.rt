@@ -1,7 +1,7 @@
 // What the cells of a description's columns need of them, known once for all its rows.
-ghost use Rattle.std.specs.Prelude.{◌≡◌, ◌==◌, ◌&&◌, ◌⊎◌, ◌+◌, ◌-◌, ◌<◌, ◌≤◌, drop, length, take, true, false, IfSome, List, MatchOption, min};
-ghost use Rattle.tds_cells.specs.CellTexts.{IsInt4, is_counted, is_int4};
-ghost use Rattle.tds_cells.specs.Formats.{AreCounted, AreInt4, AreLaidOut, most_known};
+ghost use Rattle.std.specs.Prelude.{[], ◌≡◌, ◌==◌, ◌&&◌, ◌⊎◌, ◌+◌, ◌-◌, ◌<◌, ◌≤◌, drop, length, take, true, false, IfSome, List, MatchOption, min};
+ghost use Rattle.tds_cells.specs.CellTexts.{is_counted, is_int4};
+ghost use Rattle.tds_cells.specs.Formats.{AreLaidOut, Each};
 ghost use Rattle.tds_values.specs.declared.charset.Charset.{Charset};
 ghost use Rattle.tds_cells.specs.Layouts.{IsLaidOut};
 
@@ -50,8 +50,8 @@ pub struct RowFormat<'a> {
     ghost few: { known ≤ count },
     ghost fits: { count ≤ 65535 },
     ghost laid: { AreLaidOut charset formats.now },
-    ghost numbers: { only_numbers ≡ true → AreInt4 formats.now },
-    ghost counted: { only_counted ≡ true → AreCounted formats.now },
+    ghost numbers: { only_numbers ≡ true → Each (λ f. is_int4 f.kind ≡ true) formats.now },
+    ghost counted: { only_counted ≡ true → Each (λ f. is_counted f.kind ≡ true) formats.now },
 }
 
 /// What was learnt of the first columns of a description: how many they are, whether all have only whole numbers of four bytes, whether
@@ -66,7 +66,7 @@ pub struct Learnt<'a> {
 
 /// What is there before anything is learnt of a column: a format of whole numbers of four bytes that may be NULL.
 pub fn blank() -> CellFormat
-    ensures number { IsInt4 result.kind }
+    ensures number { is_int4 result.kind ≡ true }
     ensures counted { is_counted result.kind ≡ true }
     ensures laid { (charset : Charset) → IsLaidOut charset result.kind result.layout }
 {
@@ -87,16 +87,16 @@ pub struct Cursor<'a> {
 impl<'a> RowFormat<'a> {
     ghost use Rattle.tds_columns.specs.Description as spec;
     ghost use Rattle.tds_columns.specs.View.{columns_of};
-    ghost use Rattle.tds_cells.specs.RowFormats.{AreAtCursor, BeginsRow, IsCursor, Knows, Learns, NextColumn, NextFormat, TakesFormat, place};
+    ghost use Rattle.tds_cells.specs.RowFormats.{AreAtCursor, BeginsRow, IsCursor, Knows, Learns, NextColumn, TakesColumn, place};
     ghost use Rattle.tds_columns.specs.declared.walk.Walk.{Walk};
 
     /// Learns what the cells of a description's first columns need, as many as there is room for, if single-byte text is in this set.
     #[inline(always)]
     pub fn learn(columns: Columns<'a>, charset: Charset, formats: &mut [CellFormat]) -> Learnt<'a>
-        requires few { length formats.old ≤ most_known }
+        requires few { length formats.old ≤ 1024 }
         requires laid { AreLaidOut charset formats.old }
-        requires numbers { AreInt4 formats.old }
-        requires counted { AreCounted formats.old }
+        requires numbers { Each (λ f. is_int4 f.kind ≡ true) formats.old }
+        requires counted { Each (λ f. is_counted f.kind ≡ true) formats.old }
         ensures { Learns (columns_of columns.entry.bytes.now) charset formats.new result }
     {
         let mut known = 0;
@@ -186,7 +186,7 @@ impl<'a> RowFormat<'a> {
     pub(crate) fn format(&self, at: Cursor<'a>) -> Option<CellFormat>
         ensures laid { IfSome result (λ format. IsLaidOut self.now.charset format.kind format.layout) }
         ensures next { (columns : List spec.Column) → Knows self.now columns → IsCursor self.now columns at.entry →
-            NextFormat columns at.entry result }
+            MatchOption result (drop at.entry.column columns ≡ []) (λ format. NextColumn columns at.entry format.kind) }
     {
         if (at.column as usize) < self.known {
             return Some(self.formats[at.column as usize]);
@@ -228,8 +228,8 @@ impl<'a> RowFormat<'a> {
         requires all { self.now.known ≡ self.now.count }
         ensures row { result.now ≡ take self.now.known self.now.formats.now }
         ensures few { length result.now ≤ 65535 }
-        ensures numbers { self.now.only_numbers ≡ true → AreInt4 result.now }
-        ensures counted { self.now.only_counted ≡ true → AreCounted result.now }
+        ensures numbers { self.now.only_numbers ≡ true → Each (λ f. is_int4 f.kind ≡ true) result.now }
+        ensures counted { self.now.only_counted ≡ true → Each (λ f. is_counted f.kind ≡ true) result.now }
     {
         &self.formats[..self.known]
     }
@@ -348,7 +348,8 @@ impl<'a> RowFormat<'a> {
         ensures within { IfSome result (λ taken. taken.1.column ≤ self.now.count) }
         ensures laid { IfSome result (λ taken. IsLaidOut self.now.charset taken.0.kind taken.0.layout) }
         ensures taken { (columns : List spec.Column) → Knows self.now columns → IsCursor self.now columns at.entry →
-            TakesFormat self.now columns at.entry result }
+            MatchOption result (drop at.entry.column columns ≡ [])
+            (λ taken. TakesColumn self.now columns at.entry taken.1 taken.0.kind) }
     {
         if at.column >= self.count {
             return None;

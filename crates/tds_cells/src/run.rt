@@ -1,13 +1,14 @@
 // A run of cells: as many as are whole in the packet and have room, over the ends of rows.
-ghost use Rattle.std.specs.Prelude.{false, true, ◌≡◌, ◌==◌, ◌+◌, ◌-◌, ◌<◌, ◌≤◌, drop, length, min, take};
+ghost use Rattle.std.specs.Prelude.{false, true, ◌≡◌, ◌==◌, ◌+◌, ◌-◌, ◌<◌, ◌≤◌, [], drop, length, min, take};
 ghost use Rattle.tds_cells.specs.declared.whole.TheConstants.{CELL_ROOM};
 ghost use Rattle.tds_cells.specs.FormatRuns.{NumbersEnd};
 ghost use Rattle.tds_cells.specs.Layouts.{IsLaidOut};
 ghost use Rattle.tds_cells.specs.declared.nulls.Nulls.TheVariants.{Unmarked};
-ghost use Rattle.tds_cells.specs.Runs.{AloneWritten, CellsWritten, EndsLast, KnownEnds, KnownFarEnds, KnownRan, LeavesNext, Ran, RunEnds};
-ghost use Rattle.tds_cells.specs.Runs.{StaysWithin, comma_size, rows_run};
-ghost use Rattle.tds_cells.specs.MarkedRuns.{cell_run};
-ghost use Rattle.tds_cells.specs.RowFormats.{AreAtCursor, KnowsAll};
+ghost use Rattle.tds_cells.specs.Runs.{AloneWritten, KnownRan, LeavesNext, Ran, StaysWithin};
+ghost use Rattle.tds_cells.specs.MarkedRuns.{CellsWritten, EndsFar, EndsLeft, none_null};
+ghost use Rattle.tds_cells.specs.RowFormats.{AreAtCursor, BeginsRow, KnowsAll, place};
+ghost use Rattle.tds_columns.specs.declared.walk.Walk.{Walk};
+ghost use Rattle.tds_text.specs.Quoting.{after_comma};
 
 use crate::layout::CellFormat;
 use crate::row_format::{Cursor, RowFormat};
@@ -92,7 +93,7 @@ impl KnownRun {
 // How many bytes the comma before the field of a column has.
 #[inline(always)]
 fn comma_size(column: usize) -> usize
-    ensures { result ≡ comma_size column }
+    ensures { result ≡ length (after_comma column []) }
 {
     usize::from(column > 0)
 }
@@ -118,11 +119,12 @@ impl<'a> RowFormat<'a> {
     ) -> Span
         requires within { end ≤ self.now.count }
         requires ahead { AreAtCursor self.now at.old end formats.now }
-        ensures within { StaysWithin at.old end (length bytes.now) (length to.old) (cell_run result at.new) }
-        ensures ends { result.used ≡ 0 → RunEnds self.now at.old bytes.now (length to.old) }
-        ensures left { LeavesNext self.now at.old (at.old.column + length formats.now)
-            bytes.now (length to.old) (cell_run result at.new) }
-        ensures cells { CellsWritten self.now at.old bytes.now to.new (cell_run result at.new) }
+        ensures within { StaysWithin at.old at.new end (length bytes.now) (length to.old) result }
+        ensures ends { result.used ≡ 0 → EndsLeft self.now none_null at.old bytes.now (length to.old) }
+        ensures left { LeavesNext self.now at.old at.new (at.old.column + length formats.now)
+            (drop result.used bytes.now) (length to.old - result.made) }
+        ensures cells { CellsWritten self.now none_null at.old at.new
+            (take result.used bytes.now) (take result.made to.new) }
     {
         let ends = self.ends_after(*at, formats);
         let run = run_formats(formats, self.charset, at.column, ends, bytes, to);
@@ -139,9 +141,10 @@ impl<'a> RowFormat<'a> {
     fn run_unknown(&self, at: &mut Cursor<'a>, end: u16, bytes: &[u8], to: &mut [u8]) -> Span
         requires within { end ≤ self.now.count }
         requires some { at.old.column < end }
-        ensures within { StaysWithin at.old end (length bytes.now) (length to.old) (cell_run result at.new) }
-        ensures ends { result.used ≡ 0 → RunEnds self.now at.old bytes.now (length to.old) }
-        ensures cells { CellsWritten self.now at.old bytes.now to.new (cell_run result at.new) }
+        ensures within { StaysWithin at.old at.new end (length bytes.now) (length to.old) result }
+        ensures ends { result.used ≡ 0 → EndsLeft self.now none_null at.old bytes.now (length to.old) }
+        ensures cells { CellsWritten self.now none_null at.old at.new
+            (take result.used bytes.now) (take result.made to.new) }
     {
         let Some(format) = self.format(*at) else {
             return no_span();
@@ -162,11 +165,13 @@ impl<'a> RowFormat<'a> {
     ) -> Span
         requires known { KNOWN ≡ true → self.now.known ≡ self.now.count }
         requires within { end ≤ self.now.count }
-        ensures within { StaysWithin at.old end (length bytes.now) (length to.old) (cell_run result at.new) }
+        ensures within { StaysWithin at.old at.new end (length bytes.now) (length to.old) result }
         ensures ends { result.used ≡ 0 → at.old.column < end →
-            RunEnds self.now at.old bytes.now (length to.old) }
-        ensures left { LeavesNext self.now at.old (min self.now.known end) bytes.now (length to.old) (cell_run result at.new) }
-        ensures cells { CellsWritten self.now at.old bytes.now to.new (cell_run result at.new) }
+            EndsLeft self.now none_null at.old bytes.now (length to.old) }
+        ensures left { LeavesNext self.now at.old at.new (min self.now.known end)
+            (drop result.used bytes.now) (length to.old - result.made) }
+        ensures cells { CellsWritten self.now none_null at.old at.new
+            (take result.used bytes.now) (take result.made to.new) }
     {
         if let Some(formats) = (&*self).formats(*at, end) {
             return self.run_along(at, end, formats, bytes, to);
@@ -246,7 +251,7 @@ impl<'a> RowFormat<'a> {
     #[inline(always)]
     fn run_unchecked(&self, column: u16, bytes: &[u8], to: &mut [u8]) -> KnownRun
         requires known { KnowsAll self.now }
-        ensures ends { KnownFarEnds self.now result.column
+        ensures ends { (walk : Walk) → EndsFar self.now none_null (place walk result.column)
             (drop result.used bytes.now) (length to.old - result.made) }
         ensures rows { KnownRan self.now column bytes.now to.new result }
     {
@@ -292,7 +297,7 @@ impl<'a> RowFormat<'a> {
         requires numbers { INT4 ≡ true → self.now.only_numbers ≡ true }
         ensures numbers { INT4 ≡ true → column ≡ 0 → let row = take self.now.known self.now.formats.now in
             NumbersEnd row result.column (drop result.used bytes.now) (length to.old - result.made) }
-        ensures ends { INT4 ≡ false → KnownFarEnds self.now result.column
+        ensures ends { INT4 ≡ false → (walk : Walk) → EndsFar self.now none_null (place walk result.column)
             (drop result.used bytes.now) (length to.old - result.made) }
         ensures rows { KnownRan self.now column bytes.now to.new result }
     {
@@ -314,9 +319,9 @@ impl<'a> RowFormat<'a> {
     fn run_known<const NUMBERS: bool>(&self, from: u16, bytes: &[u8], to: &mut [u8]) -> KnownRun
         requires known { KnowsAll self.now }
         requires numbers { NUMBERS ≡ true → self.now.only_numbers ≡ true }
-        ensures ends { KnownEnds self.now result.column
+        ensures ends { (walk : Walk) → EndsLeft self.now none_null (place walk result.column)
             (drop result.used bytes.now) (length to.old - result.made) }
-        ensures last { EndsLast self.now result.column (drop result.used bytes.now) }
+        ensures last { result.column ≡ self.now.count → BeginsRow (drop result.used bytes.now) → ⊥ }
         ensures rows { KnownRan self.now from bytes.now to.new result }
     {
         let mut used = 0;
@@ -359,9 +364,9 @@ impl<'a> RowFormat<'a> {
     #[inline(never)]
     fn run_partly_known(&self, at: &mut Cursor<'a>, bytes: &[u8], to: &mut [u8]) -> RowsSpan
         requires some { 0 < self.now.count }
-        ensures ends { RunEnds self.now at.new (drop result.used bytes.now) (length to.old - result.made) }
-        ensures last { EndsLast self.now at.new.column (drop result.used bytes.now) }
-        ensures rows { Ran self.now Unmarked at.old bytes.now to.new (rows_run result at.new) }
+        ensures ends { EndsLeft self.now none_null at.new (drop result.used bytes.now) (length to.old - result.made) }
+        ensures last { at.new.column ≡ self.now.count → BeginsRow (drop result.used bytes.now) → ⊥ }
+        ensures rows { Ran self.now Unmarked at.old at.new bytes.now to.new result }
     {
         let mut run = RowsSpan::none();
         loop {
@@ -391,9 +396,9 @@ impl<'a> RowFormat<'a> {
     pub(crate) fn run_rows(&self, at: &mut Cursor<'a>, bytes: &[u8], to: &mut [u8]) -> RowsSpan
         requires some { 0 < self.now.count }
         requires room { CELL_ROOM ≤ length to.old }
-        ensures ends { RunEnds self.now at.new (drop result.used bytes.now) (length to.old - result.made) }
-        ensures last { EndsLast self.now at.new.column (drop result.used bytes.now) }
-        ensures rows { Ran self.now Unmarked at.old bytes.now to.new (rows_run result at.new) }
+        ensures ends { EndsLeft self.now none_null at.new (drop result.used bytes.now) (length to.old - result.made) }
+        ensures last { at.new.column ≡ self.now.count → BeginsRow (drop result.used bytes.now) → ⊥ }
+        ensures rows { Ran self.now Unmarked at.old at.new bytes.now to.new result }
     {
         if !self.knows_all() {
             return self.run_partly_known(at, bytes, to);

@@ -1,11 +1,12 @@
 // A cell that is whole in the packet: its bytes are together. A value in chunks has one at most.
 ghost use Rattle.std.specs.Prelude.{◌≡◌, ◌+◌, ◌-◌, ◌<◌, ◌≤◌, ℕ, drop, length, take, is_ok, false, true, IfSome, IsTrue, MatchOption};
-ghost use Rattle.tds_cells.specs.CellTexts.{CellWritten, HasInt4, IsInt4, WritesField, is_counted, whole_size};
+ghost use Rattle.tds_cells.specs.CellTexts.{CellWritten, HasInt4, WritesField, is_counted, is_int4, whole_size};
 ghost use Rattle.tds_values.specs.Front.{value_bytes};
 ghost use Rattle.tds_values.specs.Scalar.{read_of};
 ghost use Rattle.tds_values.specs.declared.charset.Charset.{Charset};
 ghost use Rattle.tds_cells.specs.Cells.{LongShape, shape};
-ghost use Rattle.tds_cells.specs.ChunkedCells.{HasOneChunk, chunk_end, stated_total};
+ghost use Rattle.tds_cells.specs.ChunkedCells.{HasOneChunk, chunk_end};
+ghost use Rattle.byteorder.specs.Endian.{little_number};
 ghost use Rattle.tds_cells.specs.LongFields.{LongWritten, some_written};
 ghost use Rattle.tds_values.specs.declared.kind.Reach.{Reach};
 ghost use Rattle.tds_values.specs.Kind.{is_scalar};
@@ -79,7 +80,7 @@ const LONGEST_CHUNK: usize = 65_535;
 #[inline(always)]
 fn one_chunk(total: u64, bytes: &[u8]) -> Option<usize>
     requires some { 12 ≤ length bytes.now }
-    requires total { total ≡ stated_total bytes.now }
+    requires total { total ≡ little_number 8 bytes.now }
     ensures { MatchOption result ((n : ℕ) → HasOneChunk bytes.now n → ⊥) (λ n. HasOneChunk bytes.now n) }
 {
     let n = LittleEndian::read_u32(&bytes[TOTAL_SIZE..]) as usize;
@@ -367,7 +368,7 @@ pub(crate) fn write_int4_cell<const COUNTED: bool>(
     bytes: &[u8],
     to: &mut [u8],
 ) -> Option<Span>
-    requires number { IsInt4 format.now.kind }
+    requires number { is_int4 format.now.kind ≡ true }
     requires counted { COUNTED ≡ true → is_counted format.now.kind ≡ true }
     requires within { 5 ≤ length bytes.now }
     requires room { NUMBER_ROOM ≤ length to.old }

@@ -139,7 +139,7 @@ module _ (charset : Charset) (room : ℕ) {place : ℕ} {start : N.RowPart} {are
     : Stop}
     (tokens : List Token) where
   -- a row stopped the call
-  pub row_stops : IsHolding area (after_tokens tokens) → N.RowStops charset start a b place before after failed stop
+  pub row_stops : IsHolding area (after_tokens tokens) → N.StopsStreaming (N.row charset) N.row_so_far start a b place before after failed stop
       → N.StepStops (N.response charset room) (with_row tokens start) a b place before after area failed stop
   row_stops holds x =
       let agrees = row_agrees _ _ _ in

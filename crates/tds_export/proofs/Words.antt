@@ -94,7 +94,7 @@ pub use Rattle.tds_text.specs.Cutting.{whole_within}
 pub use Rattle.tds_text.specs.Joining.{emit}
 pub use Rattle.tds_csv.specs.Pushing.{Completes, EndsBy, Pushes, TakesPiece}
 pub use Rattle.tds_text.specs.Quoting.{doubled, doubled_byte, quote, joined, line, line_end}
-pub use Rattle.tds_csv.specs.Streaming.{PutsText, Streams, WritesPrefixStreaming}
+pub use Rattle.tds_csv.specs.Streaming.{PutsText, StopsStreaming, Streams, WritesPrefixStreaming}
 pub use Rattle.tds_text.specs.Utf16.{characters}
 pub use Rattle.tds_csv.specs.declared.joiners.JoinFault.{JoinFault}
 pub use Rattle.tds_csv.specs.declared.sink.Sink.{Sink}
@@ -113,7 +113,7 @@ pub use Rattle.tds_cells.specs.Rows.{RowPart, WholeRow, row_add, row, marked, bi
 pub use Rattle.tds_cells.specs.Rows.{InCell, next_cell, with_cell, row_start, nbc_row_start}
 pub use Rattle.tds_cells.specs.Rows.{row_so_far, RowToken, token_byte, token_start, NbcRow, PlainRow}
 pub use Rattle.tds_rows.specs.PassedCells.{PassesCell, StopsPassing}
-pub use Rattle.tds_rows.specs.RowSteps.{ReadsRows, RowsStop, RowStops}
+pub use Rattle.tds_rows.specs.RowSteps.{ReadsRows, RowsStop}
 pub use Rattle.tds_cells.specs.Runs.{RowsPart, lines, rows, rows_so_far, rows_start}
 pub use Rattle.tds_export.specs.Completion.{zeros, zero_chunks, terminator, rest_of_chunks, rest_of_cell, int_column, int_columns, least_info}
 pub use Rattle.tds_export.specs.Completion.{rest_of_description, rest_of_row, rest_of_return, rest_of_token, done, completion, CanBeCompleted}

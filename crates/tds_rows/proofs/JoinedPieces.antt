@@ -2,7 +2,7 @@
 use Rattle.tds_rows.proofs.Words as N
 use Rattle.tds_rows.proofs.Words.{◌≡◌, ◌∙◌, ℕ, ◌+◌, ◌-◌, ◌^◌, ◌<◌, ◌≤◌, Bool, List, [], ◌++◌, length, inr, sym, ap, subst, arith, Err, Stop, PayloadView, Takes}
 use Rattle.tds_rows.proofs.Words.{IsBetween, BeginsData, Conversion, IsFit, conversion_rest, emit, SinkView, joins_by_name}
-use Rattle.tds_rows.proofs.Paths.{At, over}
+use Rattle.tds_rows.proofs.Paths.{At, StopsEnding, over}
 use Rattle.tds_csv.specs.declared.joiners.JoinFault.TheVariants as join_faults
 
 module _ {fit begins : List ℕ → Type 0} {rest text : List ℕ → List ℕ} {size : ℕ} {quoted : Bool} {c : Conversion}
@@ -91,7 +91,7 @@ module _ {fit begins : List ℕ → Type 0} {rest text : List ℕ → List ℕ} 
 
     pub end_stops : {column place : ℕ} {h i : SinkView} {before after : Bool} (new : List ℕ) (unit' : ℕ) (last : Bool) (fault : N.JoinFault)
         → before ≡ N.false → after ≡ N.is_stopped {U = Unit {0}} (Err fault) → N.EndsBy {U = Unit {0}} unit' fit text old new h i before (Err fault)
-        → N.StopsEnding c quoted last content column place h i after (N.join_stop column place fault)
+        → StopsEnding c quoted last content column place h i after (N.join_stop column place fault)
     end_stops _ _ _ (N.Stopped stop) going failed x =
         grind (arith, N.common_steps, fit_whole)
     end_stops {column = column} {place = place} _ _ _ N.Odd _ failed x =

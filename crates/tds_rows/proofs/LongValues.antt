@@ -2,11 +2,11 @@
 use Rattle.tds_rows.proofs.Words as N
 use Rattle.tds_rows.proofs.Words.{◌≡◌, ◌∙◌, inl, inr, ℕ, ◌-◌, ◌^◌, ◌<◌, ◌≤◌, Bool, List, [], ◌∷◌, ◌++◌, length, sym, ap, arith, append-nil, Option, Stop}
 use Rattle.tds_rows.proofs.Words.{PayloadView}
-use Rattle.tds_rows.proofs.Words.{Conversion, is_quoted, after_comma, SinkView, Puts, held, CellPart, cell, PutsField, StopsField, cell_so_far, ending, opening}
+use Rattle.tds_rows.proofs.Words.{Conversion, is_quoted, after_comma, SinkView, Puts, held, CellPart, cell, PutsField, cell_so_far, ending, opening}
 use Rattle.tds_rows.proofs.Words.{◌≢◌, ◌+◌, ChunkLength, ◌⊎◌, suc, true, false, refl, subst, append_assoc, Some, BadText, Spelt, BeginsData, is_fit}
 use Rattle.tds_rows.proofs.Words.{open_field, added_text, WritesPrefix}
 use Rattle.tds_rows.proofs.Numbers.{Next, short_left, chunk_end, chunk_unfit, chunk_left}
-use Rattle.tds_rows.proofs.Paths.{At, Path, path_both, path_of, path_none, path_stops, over}
+use Rattle.tds_rows.proofs.Paths.{At, Path, StopsEnding, StopsField, path_both, path_of, path_none, path_stops, over}
 use Rattle.tds_cells.proofs.RowTexts.{line_grows, after_append}
 
 -- ---- content, byte by byte
@@ -136,11 +136,11 @@ module _ {column : ℕ} {c : Conversion} {state : ℕ → List ℕ → CellPart}
     abbrev Stopped : Bool → Type 0
     Stopped failed = StopsField (state (suc r) d) column last a b place h i failed stop
 
-    piece_cut : N.CutsData a b place h i stop → Stopped false
-    piece_cut x =
+    piece_cut : N.CutsBytes 1 a b place stop → i ≡ h → Stopped false
+    piece_cut x same =
         let at = state _ d in
-        let stops = N.cut_at_once _ _ a b _ _ _ _ (omega arith) x.ends (grind arith) in
-        rw x.same (record { at = at; cause = inl (stops, ([], append-nil _, N.Puts-none h delivered), refl) })
+        let stops = N.cut_at_once _ _ a b _ _ _ _ (omega (arith, x.fewer, holds.size r d)) x.ends (grind arith) in
+        rw same (record { at = at; cause = inl (stops, ([], append-nil _, N.Puts-none h delivered), refl) })
 
     piece_refused : N.RefusesData c d column (suc r) a b place h i stop → Stopped false
     piece_refused x =
@@ -183,7 +183,7 @@ module _ {column : ℕ} {c : Conversion} {state : ℕ → List ℕ → CellPart}
         ]
 
     piece_stops : {failed : Bool} → N.StopsData c d column (suc r) a b place h i failed stop → Stopped failed
-    piece_stops (inl x) = rw x.1 (piece_cut x.0)
+    piece_stops (inl x) = rw x.2 (piece_cut x.0 x.1)
     piece_stops (inr (inl x)) = rw x.1 (piece_refused x.0)
     piece_stops (inr (inr x)) = rw x.1 (piece_broken x.0)
 
@@ -398,7 +398,7 @@ module _ (column : ℕ) (last : Bool) (c : Conversion) where
   pub empty_stops : {p : At} {b : PayloadView} {place' n : ℕ} {j : SinkView} {failed : Bool} {stop : Stop} {i : SinkView} {there : ℕ}
       → Next column (N.ShortLength c) p.seen b p.place place' (short_left c n []) → n ≡ 0 → Puts p.held i (after_comma column (opening (is_quoted c)))
       → length p.held.waiting < 4096 → p.held.delivered ≤ 2 ^ 64 - 1
-      → N.StopsEnding c (is_quoted c) last [] column there i j failed stop
+      → StopsEnding c (is_quoted c) last [] column there i j failed stop
       → StopsField (N.ShortLength c) column last p.seen b p.place p.held j failed stop
   empty_stops {p = p} {i} x none opened few delivered (inl y) =
       let text = after_comma column _ ++ ending c _ last [] in
@@ -415,7 +415,7 @@ module _ (column : ℕ) (last : Bool) (c : Conversion) where
     short_whole fit puts = let good = (N.fit_by_test c all).1 fit in
         field_of (ends_path last (short_holds column c) x _ good (ending_text column c last all good) puts)
 
-    pub short_end_stops : {k : SinkView} {failed : Bool} {stop : Stop} → N.StopsEnding c (is_quoted c) last all column (q.place - 1) q.held k failed stop
+    pub short_end_stops : {k : SinkView} {failed : Bool} {stop : Stop} → StopsEnding c (is_quoted c) last all column (q.place - 1) q.held k failed stop
         → StopsField (short_left c n []) column last p.seen q.seen p.place p.held k failed stop
     short_end_stops (inl z) = let good = (N.fit_by_test c all).1 z.0 in
         rw z.2 (ends_break last (short_holds column c) x _ good (ending_text column c last all good) z.1)
@@ -451,7 +451,7 @@ module _ {column : ℕ} {last : Bool} {c : Conversion} {total : Option ℕ} {kep
       field_of (path_both x.path (next_path last (chunk_end c unit_is x.counted y free none good) _ (ending_text column c last x.content good) puts))
 
   pub chunks_end_stops : {j : SinkView} {failed : Bool} {stop : Stop} → length q.held.waiting < 4096 → q.held.delivered ≤ 2 ^ 64 - 1 → n ≡ 0
-      → N.StopsEnding c (is_quoted c) last x.content column q.place q.held j failed stop
+      → StopsEnding c (is_quoted c) last x.content column q.place q.held j failed stop
       → StopsField (ChunkLength c total []) column last p.seen d p.place p.held j failed stop
   chunks_end_stops few delivered none (inl z) =
       let good = (N.fit_by_test c _).1 z.0 in

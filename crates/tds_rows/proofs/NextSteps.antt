@@ -1,7 +1,7 @@
 -- The next cells of a row, those of a run or one, NULL or not, and rows one after another.
 use Rattle.tds_rows.proofs.Words as N
 use Rattle.tds_rows.proofs.Words.{arith, sym, ◌≡◌, ◌+◌, ◌*◌, ℕ, Bool, true, false, List, ◌∷◌, drop, refl, Err, Ok, Option, ◌==◌, Stop, seen, Column, held, Rows}
-use Rattle.tds_rows.proofs.Words.{Cursor, IsInRow, StaysInRow, RowStops, RowPart, marked, ◌∙◌, ◌-◌, ◌^◌, ◌≤◌, ◌<◌, [], ◌++◌, length, ap, before, PayloadView}
+use Rattle.tds_rows.proofs.Words.{Cursor, IsInRow, RowPart, marked, ◌∙◌, ◌-◌, ◌^◌, ◌≤◌, ◌<◌, [], ◌++◌, length, ap, before, PayloadView}
 use Rattle.tds_rows.proofs.Words.{⊤, ◌⊎◌, inl, inr}
 use Rattle.tds_rows.proofs.Words.{Takes}
 use Rattle.tds_rows.proofs.Words.{SinkView, Puts, Charset, Cell, rows, Kind, Knows}
@@ -10,7 +10,7 @@ use Rattle.tds_rows.proofs.NullSteps.{NearsCells, all_put, bitmap_cut, bitmap_ne
 use Rattle.tds_rows.proofs.NullSteps.{row_ends}
 use Rattle.tds_cells.proofs.RowTexts.{ends, ends_marked, coming, nulls_ahead, none_ahead}
 use Rattle.tds_rows.proofs.RowSteps.{PutsAt, StopsAt, cell_some}
-use Rattle.tds_rows.proofs.Paths.{At, here, Path, path_both, path_map, path_none, path_of, over}
+use Rattle.tds_rows.proofs.Paths.{At, here, Path, RowStops, path_both, path_map, path_none, path_of, over}
 use Rattle.std.proofs.lemmas.Bool.{true≢false}
 use Rattle.tds_cells.proofs.GrammarTexts.{writes_none}
 use Rattle.tds_cells.proofs.RowFormatSteps.{last_one, next_column}
@@ -145,6 +145,14 @@ module _ (charset : Charset) (start : RowPart) (columns : List Column) (nulls : 
 
 -- ---- a reading of rows, from call to call
 
+-- A row is still being read, on the same devices and area, by the same row format, with no more than a cell gathered.
+pub record StaysInRow {R W : Type 0} (old new : Rows R W) : Type 0 where
+  pub in_row : IsInRow new
+  pub same : N.IsOnSameRows old new
+  pub payload : N.IsOnSame old.payload.now new.payload.now
+  pub sink : N.IsOnSameSink old.sink.now new.sink.now
+  pub small : N.LeavesSmall old.small.now new.small.now
+
 pub stays : {R W : Type 0} {a : Rows R W} → IsInRow a → StaysInRow a a
 stays x = grind arith
 
@@ -154,26 +162,26 @@ stays_on x y = grind arith
 pub stays_after : {R W U : Type 0} {a b : Rows R W} {u : U} → IsInRow a → N.LeavesRows a b (Ok u) → StaysInRow a b
 stays_after x y = grind arith
 
+-- a call that stopped after others left the reading so
+pub stops_on : {R W U V : Type 0} {a b c : Rows R W} {stop : Stop} → StaysInRow a b → N.LeavesRows {U = U} b c (Err stop)
+    → N.LeavesRows {U = V} a c (Err stop)
+stops_on x y = grind arith
+
 -- ---- the next cell
+
+-- the row's last cell is the one before no other
+last_is : {row_format : N.RowFormat} {columns : List Column} {at after : Cursor} {kind : Kind} (nulls : ℕ → Bool) → Knows row_format columns
+    → N.TakesColumn row_format columns at after kind
+    → (at.column + 1 == row_format.count) ≡ ends (marked (drop after.column columns) nulls (at.column + 1))
+last_is nulls knows taken = last_one _ _ _ _ _ knows.counted taken.next ∙ ends_marked _ nulls _
 
 -- the next cell was read, or it stopped
 pub cell_read : {R W U : Type 0} {remaining : R → Option (List ℕ)} {contents : W → Option (List ℕ)} {old new : Rows R W} {at after : Cursor}
     {kind : Kind} {result : N.Result U Stop} {columns : List Column} (nulls : ℕ → Bool) → N.CellRead remaining contents at kind old new result
-    → Knows old.row_format.now columns → N.IsCursor old.row_format.now columns at → (taken : N.TakesColumn old.row_format.now columns at after kind)
-    → N.KindRead remaining contents at.column (ends (marked (drop after.column columns) nulls (at.column + 1))) taken.column.kind old new result
-cell_read {at = at} {kind = kind} {columns = columns} nulls x knows ahead taken =
-    let next : N.IsNextKind _ at kind (N.is_last_column _) =
-    record {
-      columns = columns;
-      knows = knows;
-      ahead = ahead;
-      column = taken.column;
-      rest = drop _ columns;
-      next = taken.next;
-      kind = taken.kind;
-      last = refl;
-    } in
-    rw (taken.kind, ends_marked _ nulls (at.column + 1)) at (x.cell _ next)
+    → Knows old.row_format.now columns → (taken : N.TakesColumn old.row_format.now columns at after kind)
+    → N.FieldPut remaining contents (N.cell_start taken.column.kind (N.shape old.row_format.now.charset taken.column.kind)) at.column
+    (ends (marked (drop after.column columns) nulls (at.column + 1))) old.payload.now new.payload.now old.sink.now new.sink.now result
+cell_read nulls x knows taken = rw (taken.kind, last_is nulls knows taken) at x.cell
 
 -- ---- rows, one after another
 
@@ -269,14 +277,15 @@ pub record Rowing (charset : Charset) (all : List Column) (left : List (Column �
   pub rows : RowsAt N.PlainRow charset all p q count (N.next_cell charset cells left)
 
 module _ {charset : Charset} {all : List Column} {p q : At} {column count : ℕ} where
-  rowing_run : {left left' : List Column} {column' count' : ℕ} {r : At} → Rowing charset all (coming left column) p q column count
-      → ((cells : List Cell) → length cells ≡ column
-      → over (N.RunsRows charset all cells left left' column' count') q r)
-      → Rowing charset all (coming left' column') p r column' (count + count')
-  rowing_run x f =
+  rowing_run : {left left' : List Column} {column' count' : ℕ} {r : At} {bytes made : List ℕ} → Rowing charset all (coming left column) p q column count
+      → ((cells : List Cell) → length cells ≡ column → N.WritesRows charset all cells left left' column' count' bytes made) → Takes q.seen r.seen bytes 0
+      → Puts q.held r.held made → r.place ≡ q.place + length bytes → Rowing charset all (coming left' column') p r column' (count + count')
+  rowing_run {r = r} {bytes = bytes} x f takes puts at =
       let y = f x.cells x.counted in
-      let run = rw (x.counted, y.counted) at (path_of y.streams y.place_is) in
-      record { cells = y.more; counted = y.counted; rows = rw y.rows_counted at (rows_further x.rows run) }
+      let run : Path (rows N.PlainRow charset all) N.rows_so_far (record { before = []; at = N.after_cells charset x.cells _ }) q r
+      (record { before = y.before; at = N.after_cells charset y.more _ }) =
+      record { bytes = bytes; made = _; writes = y.writes; takes = N.Takes-more q.seen r.seen bytes 0 _ (omega arith) takes; puts = puts; place_is = at } in
+      record { cells = y.more; counted = y.counted; rows = rw y.rows_counted at (rows_further x.rows (rw (x.counted, y.counted) at run)) }
 
   module _ {c : Column} {ks : List (Column × Bool)} where
     pub rowing_cell : {r : At} → nulls_ahead (column + 1) ks ≡ [] → Rowing charset all ((c, false) ∷ ks) p q column count
@@ -347,14 +356,11 @@ module _ {R W : Type 0} (remaining : R → Option (List ℕ)) (contents : W → 
   abbrev left : List (Column × Bool)
   left = marked (drop after.column columns) nulls (at.column + 1)
 
-  last_is : (at.column + 1 == old.row_format.now.count) ≡ ends left
-  last_is = grind (arith, last_one)
-
   -- the next cell doesn't go back
   next_place : {u : ⊤} (null : Bool) → N.NextRead remaining contents at kind null old new (Ok u) → old.payload.now.place ≤ new.payload.now.place
   next_place true x = omega (arith, ap (λ p. p.place) x.0)
   next_place false x =
-      let some = cell_some {p = here remaining contents old} {q = here remaining contents new} _ _ (cell_read nulls x knows ahead taken) in
+      let some = cell_some {p = here remaining contents old} {q = here remaining contents new} _ _ (cell_read nulls x knows taken) in
       omega (arith, some)
 
   module _ (p : At) (in_row : IsInRow old) (near : NearsCells old.row_format.now.charset (N.nbc_row_start columns)
@@ -365,16 +371,16 @@ module _ {R W : Type 0} (remaining : R → Option (List ℕ)) (contents : W → 
 
     next_nears : {u : ⊤} (null : Bool) → nulls at.column ≡ null → N.LeavesRows old new (Ok u) → N.NextRead remaining contents at kind null old new (Ok u)
         → NearsCells old.row_format.now.charset (N.nbc_row_start columns) left p (here remaining contents new) (at.column + 1)
-    next_nears true is leaves y = rw y.0 (null_nears (left_here true is) (rw last_is at y.1.gives))
+    next_nears true is leaves y = rw y.0 (null_nears (left_here true is) (rw (last_is nulls knows taken) at y.1.gives))
     next_nears false is leaves y = cell_nears (N.between_of remaining new.payload.now leaves.payload.going) (omega arith)
-        (all_put refl in_row.sink.ready.2 (left_here false is)) (cell_read nulls y knows ahead taken)
+        (all_put refl in_row.sink.ready.2 (left_here false is)) (cell_read nulls y knows taken)
 
     next_stops : {stop : Stop} (null : Bool) → nulls at.column ≡ null → N.NextRead {U = ⊤} remaining contents at kind null old new (Err stop)
         → RowStops old.row_format.now.charset (N.nbc_row_start columns) p.seen (seen remaining new.payload.now) p.place p.held (held contents new.sink.now)
         new.sink.now.failed stop
     next_stops true is y = rw (y.0, y.1.failed) (null_breaks [] (N.Takes-none _ 0)
-        (grind arith) (left_here _ is) (rw last_is at (y.1.gives in_row.sink.writing)))
-    next_stops false is y = cell_stops (all_put refl in_row.sink.ready.2 (left_here _ is)) (cell_read nulls y knows ahead taken)
+        (grind arith) (left_here _ is) (rw (last_is nulls knows taken) at (y.1.gives in_row.sink.writing)))
+    next_stops false is y = cell_stops (all_put refl in_row.sink.ready.2 (left_here _ is)) (cell_read nulls y knows taken)
 
 module _ {R W : Type 0} {remaining : R → Option (List ℕ)} {contents : W → Option (List ℕ)} {first old : Rows R W} {from : Cursor} {count : ℕ} where
   look : {columns : List Column} (nulls : N.Nulls) → Stands remaining contents nulls first old from count → Knows first.row_format.now columns
@@ -401,18 +407,20 @@ module _ {R W : Type 0} {remaining : R → Option (List ℕ)} {contents : W → 
       kept = stays_on x.kept (stays_after x.kept.in_row run.leaves);
       reads = λ columns knows.
           let y = look N.Unmarked x knows in
-          let ran = run.cells _ y.0 y.1 in
-          rw (← x.kept.same.3) (ran.0, rowing_run y.2 (grind arith));
+          let put = run.cells in
+          let ran = put.wrote _ y.0 y.1 in
+          rw (← x.kept.same.3) (ran.0, rowing_run y.2 (λ cells counted. ran.1 _ cells refl counted) put.takes put.puts put.place_is);
     }
     stands_run (N.Marked bitmap) x run = record {
       kept = stays_on x.kept (stays_after x.kept.in_row run.leaves);
       reads = λ columns knows.
           let y = look (N.Marked bitmap) x knows in
-          let put = run.cells _ y.0 y.1 in
-          let near = marked_nears _ _ columns (N.bit bitmap.now) _ from.column put.1.runs.count (here remaining contents old) (here remaining contents new)
-          _ _ put.1.runs.writes
-          (passes_on remaining contents x.kept.in_row (stays_after x.kept.in_row run.leaves).in_row put.1.takes put.1.puts put.1.place_is) y.2.1 in
-          rw (← x.kept.same.3) (put.1.runs.ahead, (omega (arith, y.2.0, put.0), rw put.1.runs.further near));
+          let put = run.cells in
+          let runs = put.wrote.1 _ y.0 y.1 in
+          let near = marked_nears _ _ columns (N.bit bitmap.now) _ from.column runs.count (here remaining contents old) (here remaining contents new)
+          _ _ runs.writes
+          (passes_on remaining contents x.kept.in_row (stays_after x.kept.in_row run.leaves).in_row put.takes put.puts put.place_is) y.2.1 in
+          rw (← x.kept.same.3) (runs.ahead, (omega (arith, y.2.0, put.wrote.0), rw runs.further near));
     }
 
     -- a write of their text failed
@@ -422,15 +430,16 @@ module _ {R W : Type 0} {remaining : R → Option (List ℕ)} {contents : W → 
     run_fails N.Unmarked x run knows =
         let y = look N.Unmarked x knows in
         let sink = x.kept.in_row.sink in
-        rw (← x.kept.same.3) (rows_stop y.2.rows (rw y.2.counted at (run_breaks {place = old.payload.now.place} y.2.cells (run.cells _ y.0 y.1) y.2.counted
+        rw (← x.kept.same.3) (rows_stop y.2.rows (rw y.2.counted at (run_breaks {place = old.payload.now.place} y.2.cells run.cells y.0 y.1 y.2.counted
         (sink.ready.1 sink.writing) sink.ready.2)))
     run_fails {stop = stop} {columns = columns} (N.Marked bitmap) x run knows =
         let y = look (N.Marked bitmap) x knows in
-        let put = run.cells _ y.0 y.1 in
+        let put = run.cells in
+        let runs = put.wrote _ y.0 y.1 in
         let sink = x.kept.in_row.sink in (
           tt,
-          rw (← x.kept.same.3, put.failed_is) (marked_breaks _ _ columns (N.bit bitmap.now) _ _ put.runs.count (here remaining contents old) _ _ stop
-              put.bytes [] put.text put.runs.writes (rw N.append-nil put.takes) put.between (sink.ready.1 sink.writing) sink.ready.2 put.breaks y.2.1),
+          rw (← x.kept.same.3, put.failed_is) (marked_breaks _ _ columns (N.bit bitmap.now) _ _ runs.count (here remaining contents old) _ _ stop
+              put.bytes [] put.text runs.writes (rw N.append-nil put.takes) put.between (sink.ready.1 sink.writing) sink.ready.2 put.breaks y.2.1),
         )
 
     -- after the next cell
@@ -444,7 +453,7 @@ module _ {R W : Type 0} {remaining : R → Option (List ℕ)} {contents : W → 
           rw (← x.kept.same.3) (
             t.ahead,
             rw (N.sym t.further) at (rowing_cell (none_ahead (drop to.column columns) _) (rw t.next at y.2)
-                (cell_read (λ k. false) next.read y.0 y.1 t)),
+                (cell_read (λ k. false) next.read y.0 t)),
           );
     }
     stands_next (N.Marked bitmap) x leaves next = record {
@@ -463,7 +472,7 @@ module _ {R W : Type 0} {remaining : R → Option (List ℕ)} {contents : W → 
     next_fails N.Unmarked x next knows =
         let y = look N.Unmarked x knows in
         let t = next.takes _ y.0 y.1 in
-        rw (← x.kept.same.3) (rowing_stop (rw t.next at y.2) (cell_read (λ k. false) next.read y.0 y.1 t))
+        rw (← x.kept.same.3) (rowing_stop (rw t.next at y.2) (cell_read (λ k. false) next.read y.0 t))
     next_fails (N.Marked bitmap) x next knows =
         let y = look (N.Marked bitmap) x knows in
         let t = next.takes _ y.0 y.1 in
@@ -516,14 +525,14 @@ pub next_further : {R W : Type 0} {remaining : R → Option (List ℕ)} {content
     × ((middle.payload.now.place < new.payload.now.place) ⊎ (from.column < after.column))
 next_further N.Unmarked x run known next =
     let y = look N.Unmarked (stands_run N.Unmarked x run) known.1 in
-    let some = cell_some _ _ (cell_read (λ k. false) next.read y.0 y.1 (next.takes _ y.0 y.1)) in
+    let some = cell_some _ _ (cell_read (λ k. false) next.read y.0 (next.takes _ y.0 y.1)) in
     (omega (arith, some), inl some)
 next_further {remaining = remaining} {contents = contents} {middle = middle} {new = new} (N.Marked bitmap) x run known next =
     let from = look (N.Marked bitmap) x known.1 in
     let y = look (N.Marked bitmap) (stands_run (N.Marked bitmap) x run) known.1 in
     let t = next.takes _ y.0 y.1 in (
       next_place remaining contents middle new (N.bit bitmap.now) y.0 y.1 t _ next.read,
-      inr (omega (arith, t.further, (run.cells _ from.0 from.1).1.runs.further)),
+      inr (omega (arith, t.further, (run.cells.wrote.1 _ from.0 from.1).further)),
     )
 
 -- so less is left of the packets that may come, or of the row
@@ -593,26 +602,27 @@ module _ {R W : Type 0} {remaining : R → Option (List ℕ)} {contents : W → 
   pub come_first : {token : N.RowToken} {first : Rows R W} → IsInRow first → RowsCome remaining contents token first first 0
   come_first in_row = record { kept = stays in_row; reads = λ columns knows. rows_first in_row.sink.ready.2 }
 
-  module _ {first old new : Rows R W} {count n : ℕ} {last : Bool} (stays : StaysInRow old new) (some : 0 < old.row_format.now.count)
-      (taken : (columns : List Column) → Knows old.row_format.now columns → N.RowsTaken remaining contents columns old new n last) where
+  module _ {U : Type 0} {u : U} {first old new : Rows R W} {count n : ℕ} {last : Bool} (leaves : N.LeavesRows old new (Ok u))
+      (some : 0 < old.row_format.now.count) (taken : (columns : List Column) → Knows old.row_format.now columns
+      → over (N.PutsRun (N.WritesWholeRows old.row_format.now.charset columns n last)) (here remaining contents old) (here remaining contents new)) where
     -- after NBCROWs that went at once, of ROWs none, which another follows
     pub come_taken : (token : N.RowToken) → (token ≡ N.PlainRow → (n ≡ 0) × (last ≡ false)) → RowsCome remaining contents token first old count
         → last ≡ false → RowsCome remaining contents token first new (count + n)
-    come_taken N.PlainRow none x more = record {
+    come_taken N.PlainRow none x more = let stays = stays_after x.kept.in_row leaves in record {
       kept = stays_on x.kept stays;
       reads = λ columns knows.
           let y = taken columns (rw (← x.kept.same.3) at knows) in
-          let w = rw ((none refl).0, more) at y.writes in
+          let w = rw ((none refl).0, more) at y.wrote in
           let passes = passes_on remaining contents x.kept.in_row stays.in_row y.takes y.puts y.place_is in
           rw ((none refl).0, N.add-zero count) (rows_stay (x.reads columns knows) (rw (w.0, w.1) at passes));
     }
-    come_taken N.NbcRow _ x more = record {
+    come_taken N.NbcRow _ x more = let stays = stays_after x.kept.in_row leaves in record {
       kept = stays_on x.kept stays;
       reads = λ columns knows.
           let known = rw (← x.kept.same.3) at knows in
           let y = taken columns known in
           let sink = x.kept.in_row.sink in
-          rows_marked n _ _ _ _ (omega (arith, known.counted, some)) (sink.ready.1 sink.writing) (rw (x.kept.same.3, more) at y.writes)
+          rows_marked n _ _ _ _ (omega (arith, known.counted, some)) (sink.ready.1 sink.writing) (rw (x.kept.same.3, more) at y.wrote)
           (passes_on remaining contents x.kept.in_row stays.in_row y.takes y.puts y.place_is) (x.reads columns knows);
     }
 
@@ -622,11 +632,12 @@ module _ {R W : Type 0} {remaining : R → Option (List ℕ)} {contents : W → 
         → over (N.ReadsRows token first.row_format.now.charset columns (count + n + 1)) (here remaining contents first) (here remaining contents new)
     come_last N.PlainRow none _ end _ = absurd (true≢false (N.sym end ∙ (none refl).1))
     come_last N.NbcRow _ x end knows =
+        let stays = stays_after x.kept.in_row leaves in
         let known = rw (← x.kept.same.3) at knows in
         let y = taken _ known in
         let sink = x.kept.in_row.sink in
         rows_whole_last n _ _ _ _ (omega (arith, known.counted, some)) (sink.ready.1 sink.writing) stays.in_row.sink.ready.2
-        (rw (x.kept.same.3, end) at y.writes) (passes_on remaining contents x.kept.in_row stays.in_row y.takes y.puts y.place_is) (x.reads _ knows)
+        (rw (x.kept.same.3, end) at y.wrote) (passes_on remaining contents x.kept.in_row stays.in_row y.takes y.puts y.place_is) (x.reads _ knows)
 
   module _ {first old new : Rows R W} {count : ℕ} where
     -- a row more was read, or several
@@ -640,14 +651,14 @@ module _ {R W : Type 0} {remaining : R → Option (List ℕ)} {contents : W → 
         rw y.0 (rows_row (x.reads _ knows) y.1)
 
     -- and the token byte of the next
-    pub come_next : {after : Rows R W} {n : ℕ} (token : N.RowToken) → RowsCome remaining contents token first old count → 0 < old.row_format.now.count
-        → N.LeavesRows old new (Ok n) → SomeFrom remaining contents token old new (Ok n)
-        → StaysInRow new after → after.sink.now ≡ new.sink.now → N.TokenTaken remaining token new.payload.now after.payload.now true
+    pub come_next : {V : Type 0} {v : V} {after : Rows R W} {n : ℕ} (token : N.RowToken) → RowsCome remaining contents token first old count
+        → 0 < old.row_format.now.count → N.LeavesRows old new (Ok n) → SomeFrom remaining contents token old new (Ok n)
+        → N.LeavesRows new after (Ok v) → after.sink.now ≡ new.sink.now → N.TokenTaken remaining token new.payload.now after.payload.now true
         → RowsCome remaining contents token first after (count + n)
     come_next token x some leaves read stays sink taken =
         let kept = stays_on x.kept (stays_after x.kept.in_row leaves) in
         record {
-          kept = stays_on kept stays;
+          kept = stays_on kept (stays_after kept.in_row stays);
           reads = λ columns knows.
               rows_token (omega (arith, (rw (← x.kept.same.3) at knows).counted, some)) (come_rows token x leaves read knows) taken.0
               (none_put contents sink kept.in_row.sink.ready.2) taken.1;

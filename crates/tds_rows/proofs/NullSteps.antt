@@ -6,7 +6,7 @@ use Rattle.tds_rows.proofs.Words.{Column, SinkView, Charset, Cell, CellPart, Row
 use Rattle.tds_cells.proofs.RowTexts.{begun_text, coming, ends, line_grows, nulls_ahead, nulls_text, part_text, rest_of}
 use Rattle.tds_rows.proofs.RowSteps.{PutsAt, StopsAt, cell_some, StopsCell}
 use Rattle.tds_cells.proofs.RowLaws.{begins_open, cell_in_row}
-use Rattle.tds_rows.proofs.Paths.{At, Path, path_both, path_map, path_none, path_of, path_stops, streams_of, over}
+use Rattle.tds_rows.proofs.Paths.{At, Path, RowStops, path_both, path_map, path_none, path_of, path_stops, streams_of, over}
 use Rattle.tds_cells.proofs.RowTexts.{row_cell}
 
 -- ---- a cell in its row, with the NULLs after it
@@ -79,7 +79,7 @@ module _ (charset : Charset) (cells : List Cell) (ks : List (Column × Bool)) wh
 
   pub marked_stops : {b d : PayloadView} {place : ℕ} {i j : SinkView} {failed : Bool} {stop : Stop} (c : Column)
       → StopsCell charset c.kind (length cells) (ends ks) b d place i j failed stop
-      → N.RowStops charset (N.InCell cells (N.cell_start c.kind (N.shape charset c.kind)) ks) b d place i j failed stop
+      → RowStops charset (N.InCell cells (N.cell_start c.kind (N.shape charset c.kind)) ks) b d place i j failed stop
   marked_stops c x = rw (← begins_open charset cells ks c.kind _) (stops_there (grind arith) x)
 
 -- ---- column after column
@@ -121,7 +121,7 @@ bitmap_nears {p = p} _ bitmap some whole takes between few d at =
 -- the payload stopped in the bitmap
 pub bitmap_cut : {columns : List Column} {a b : PayloadView} {place : ℕ} {h : SinkView} {stop : Stop} (charset : Charset) (part : List ℕ) (own : Stop)
     → length part < N.bitmap_length (length columns) → N.Ends a b part own → stop ≡ N.began_at place own → h.delivered ≤ 2 ^ 64 - 1
-    → N.RowStops charset (N.nbc_row_start columns) a b place h h false stop
+    → RowStops charset (N.nbc_row_start columns) a b place h h false stop
 bitmap_cut _ _ _ fewer ended is d =
     record { at = N.Bitmap _; cause = inl (N.cut_at_once _ _ _ _ _ _ _ _ fewer ended (N.began_is_cut _ _ _ _ refl is), ([], refl, N.Puts-none _ d), refl) }
 
@@ -150,7 +150,7 @@ module _ {charset : Charset} {start : RowPart} {c : Column} {ks : List (Column �
   -- a write of it failed, after more was read
   pub null_breaks : {d : PayloadView} {j : SinkView} {stop : Stop} (rest : List ℕ) → N.Takes q.seen d rest 0 → N.IsBetween d
       → NearsCells charset start ((c, true) ∷ ks) p q column → N.WritesPrefix q.held j (N.in_line column (ends ks) N.null_field) stop
-      → N.RowStops charset start p.seen d p.place p.held j true stop
+      → RowStops charset start p.seen d p.place p.held j true stop
   null_breaks {d = d} rest takes between x breaks =
       let n = x.nears in
       let read = n.bytes ++ n.element in
@@ -187,7 +187,7 @@ module _ {charset : Charset} {start : RowPart} {c : Column} {ks : List (Column �
       record { cells = x.cells ++ one.0 ∷ []; counted = omega (arith, N.length-append x.cells (one.0 ∷ [])); path = path_both x.path one.1 }
 
   pub cell_stops : {d : PayloadView} {j : SinkView} {failed : Bool} {stop : Stop} → Reads charset start ((c, false) ∷ ks) p q column
-      → StopsAt charset c.kind column (ends ks) q d j failed stop → N.RowStops charset start p.seen d p.place p.held j failed stop
+      → StopsAt charset c.kind column (ends ks) q d j failed stop → RowStops charset start p.seen d p.place p.held j failed stop
   cell_stops x y = path_stops x.path (marked_stops _ _ _ c (rw (sym x.counted) at y))
 
   -- a cell was read and its text put, and NULLs may be after it

@@ -1,7 +1,7 @@
 -- The numbers of a long value, its length or total and those of its chunks, as elements of its cell: how each is judged, and where it leads.
 use Rattle.tds_rows.proofs.Words as N
-use Rattle.tds_rows.proofs.Words.{◌-◌, if◌then◌else◌, ◌≡◌, ◌≢◌, ◌∙◌, ◌⊎◌, ℕ, ◌+◌, ◌<◌, List, [], refl, ap, arith, Option, Some, None, ◌==◌, Fault, Stop}
-use Rattle.tds_rows.proofs.Words.{PayloadView}
+use Rattle.tds_rows.proofs.Words.{◌-◌, ◌%◌, ◌||◌, if◌then◌else◌, ◌≡◌, ◌≢◌, ◌∙◌, ◌⊎◌, ℕ, ◌+◌, ◌<◌, List, [], refl, ap, arith, Option, Some, None, ◌==◌, Fault}
+use Rattle.tds_rows.proofs.Words.{PayloadView, Stop}
 use Rattle.tds_rows.proofs.Words.{unit, CellPart, ChunkLength, Total, cell}
 use Rattle.tds_packet.specs.declared.payload.Payload.{Payload as Input}
 
@@ -12,6 +12,22 @@ short_left c left content = if left == 0 then N.WholeCell (N.DataCell c content)
 -- within a chunk: this many bytes follow the data so far
 abbrev pub chunk_left : N.Conversion → Option ℕ → ℕ → List ℕ → CellPart
 chunk_left c total left content = if left == 0 then ChunkLength c total content else N.ChunkData c total (left - 1) content
+
+-- the fault of the length of a short value, by the bytes of a unit
+abbrev pub short_fault : ℕ → ℕ → ℕ → Option Fault
+short_fault column size n = N.unless ((n == 0xFFFF) || (n % size == 0)) (N.OddText column)
+
+-- and what it says: nothing of NULL
+abbrev pub short_length : ℕ → Option ℕ
+short_length n = if n == 0xFFFF then None else Some n
+
+-- the fault of a total
+abbrev pub total_fault : ℕ → ℕ → ℕ → Option Fault
+total_fault column size n = N.unless (N.nat_le N.unknown_total n || (n % size == 0)) (N.OddText column)
+
+-- and what it says: nothing of NULL, else how many bytes there are, if that is known
+abbrev pub total_of : ℕ → Option (Option ℕ)
+total_of n = if n == N.null_total then None else Some (N.known_total n)
 
 -- An element of a cell was read, which leads from one state to another.
 pub record Next (column : ℕ) (s : CellPart) (a b : PayloadView) (place place' : ℕ) (t : CellPart) : Type 0 where
@@ -25,7 +41,7 @@ pub record Next (column : ℕ) (s : CellPart) (a b : PayloadView) (place place' 
 -- it was refused, or is cut
 number_stops : {column size place : ℕ} {s : CellPart} {fault : ℕ → Option Fault} {a b : PayloadView} {stop : Stop} → 0 < size → N.cell_size s ≡ size
     → N.cell_end s ≡ Some N.MessageEnded → ((e : List ℕ) (n : ℕ) (f : Fault) → N.little e ≡ n → fault n ≡ Some f → N.cell_fault column s e ≡ Some f)
-    → N.RefusesNumber size fault a b place stop ⊎ N.CutsNumber size a b place stop → N.StopsReading (cell column) s a b place s stop
+    → N.RefusesNumber size fault a b place stop ⊎ N.CutsBytes size a b place stop → N.StopsReading (cell column) s a b place s stop
 number_stops {column = column} {place = place} {s = s} {a = a} {b = b} {stop = stop} some is _ first (N.inl x) =
     let r = x.reads in
     N.subst (λ t. N.StopsReading (cell column) s a b place s t) (grind arith)
@@ -35,25 +51,25 @@ number_stops _ is end _ (N.inr x) = grind arith
 -- ---- the length of a short value
 
 module _ {column : ℕ} (c : N.Conversion) {size : ℕ} (unit_is : size ≡ unit c) where
-  pub short_stops : {a b : PayloadView} {place : ℕ} {stop : Stop} → N.RefusesNumber 2 (N.short_fault column size) a b place stop ⊎ N.CutsNumber 2 a b place stop
+  pub short_stops : {a b : PayloadView} {place : ℕ} {stop : Stop} → N.RefusesNumber 2 (short_fault column size) a b place stop ⊎ N.CutsBytes 2 a b place stop
       → N.StopsReading (cell column) (N.ShortLength c) a b place (N.ShortLength c) stop
   short_stops x = number_stops (omega arith) refl refl (λ e n f is first. grind arith) x
 
   -- as a call read it
-  module _ {a b : PayloadView} {place place' : ℕ} {answer : Option ℕ} (x : (n : ℕ) × N.ReadsNumber 2 a b place place' n × (N.short_fault column size n ≡ None)
-      × (answer ≡ N.short_length n)) where
+  module _ {a b : PayloadView} {place place' : ℕ} {answer : Option ℕ} (x : (n : ℕ) × N.ReadsNumber 2 a b place place' n × (short_fault column size n ≡ None)
+      × (answer ≡ short_length n)) where
     pub short_none : answer ≡ None → Next column (N.ShortLength c) a b place place' (N.WholeCell N.Null)
     short_none is = grind arith
 
     pub short_start : {k : ℕ} → answer ≡ Some k → Next column (N.ShortLength c) a b place place' (short_left c k [])
     short_start is = grind arith
 
-  pub total_stops : {a b : PayloadView} {place : ℕ} {stop : Stop} → N.RefusesNumber 8 (N.total_fault column size) a b place stop ⊎ N.CutsNumber 8 a b place stop
+  pub total_stops : {a b : PayloadView} {place : ℕ} {stop : Stop} → N.RefusesNumber 8 (total_fault column size) a b place stop ⊎ N.CutsBytes 8 a b place stop
       → N.StopsReading (cell column) (Total c) a b place (Total c) stop
   total_stops x = number_stops (omega arith) refl refl (λ e n f is first. grind arith) x
 
   module _ {a b : PayloadView} {place place' : ℕ} {answer : Option (Option ℕ)} (x : (n : ℕ) × N.ReadsNumber 8 a b place place' n
-      × (N.total_fault column size n ≡ None) × (answer ≡ N.total_of n)) where
+      × (total_fault column size n ≡ None) × (answer ≡ total_of n)) where
     pub total_none : answer ≡ None → Next column (Total c) a b place place' (N.WholeCell N.Null)
     total_none is = grind arith
 
@@ -64,7 +80,7 @@ module _ {column : ℕ} (c : N.Conversion) {size : ℕ} (unit_is : size ≡ unit
 
 module _ {column : ℕ} (c : N.Conversion) {size : ℕ} (unit_is : size ≡ unit c) {total : Option ℕ} where
   module _ {content : List ℕ} {sum : ℕ} (counted : N.length content ≡ sum) {a b : PayloadView} {place : ℕ} where
-    pub chunk_stops : {stop : Stop} → N.RefusesNumber 4 (λ n. N.chunk_length_fault column size total sum n) a b place stop ⊎ N.CutsNumber 4 a b place stop
+    pub chunk_stops : {stop : Stop} → N.RefusesNumber 4 (λ n. N.chunk_length_fault column size total sum n) a b place stop ⊎ N.CutsBytes 4 a b place stop
         → N.StopsReading (cell column) (ChunkLength c total content) a b place (ChunkLength c total content) stop
     chunk_stops x = number_stops (omega arith) refl refl (λ e n f is first. grind arith) x
 
@@ -89,14 +105,18 @@ module _ {column : ℕ} (c : N.Conversion) {size : ℕ} (unit_is : size ≡ unit
 pub same_failures : {a b c d : ℕ} → a ≡ c → b ≡ d → ◌≡◌ {A = N.Failures} (record { reads = a; writes = b }) (record { reads = c; writes = d })
 same_failures e f = cc
 
-pub stops_after : {a b c : N.Failures} (stop : Stop) → b ≡ a → N.StopBlames b c stop → N.StopBlames a c stop
+-- A stop that names a device's fault comes after one more failure of that device.
+abbrev pub StopBlames : N.Failures → N.Failures → Stop → Type 0
+StopBlames old new stop = (stop.fault ≡ N.ReadFailed → new.reads ≡ N.one_more old.reads) × (stop.fault ≡ N.WriteFailed → new.writes ≡ N.one_more old.writes)
+
+pub stops_after : {a b c : N.Failures} (stop : Stop) → b ≡ a → StopBlames b c stop → StopBlames a c stop
 stops_after _ e h = rw (← e) h
 
 -- what a stop of the payload says of its reader
 abbrev pub ReadBlames : ℕ → ℕ → Stop → Type 0
 ReadBlames old new stop = (stop.fault ≡ N.WriteFailed → ⊥) × (stop.fault ≡ N.ReadFailed → new ≡ N.one_more old)
 
-pub read_stops : (old new : N.Failures) (stop : Stop) → ReadBlames old.reads new.reads stop → N.StopBlames old new stop
+pub read_stops : (old new : N.Failures) (stop : Stop) → ReadBlames old.reads new.reads stop → StopBlames old new stop
 read_stops _ _ _ h = grind arith
 
 -- a fault that names no device
@@ -104,13 +124,13 @@ abbrev NoDevice : Option Fault → Type 0
 NoDevice None = N.⊤
 NoDevice (Some fault) = (fault ≡ N.WriteFailed → ⊥) × (fault ≡ N.ReadFailed → ⊥)
 
-pub total_blames : (column size n : ℕ) → NoDevice (N.total_fault column size n)
+pub total_blames : (column size n : ℕ) → NoDevice (total_fault column size n)
 total_blames _ _ n = grind arith
 
 -- a length that was refused or cut
 pub length_blames : {R : Type 0} {size : ℕ} {b : PayloadView} {stop : Stop} (remaining : R → Option (List ℕ)) {fault : ℕ → Option Fault} (old : Input R)
     → old.stopped ≡ None → ((n : ℕ) → NoDevice (fault n))
-    → N.RefusesNumber size fault (N.seen remaining old) b old.place stop ⊎ N.CutsNumber size (N.seen remaining old) b old.place stop
+    → N.RefusesNumber size fault (N.seen remaining old) b old.place stop ⊎ N.CutsBytes size (N.seen remaining old) b old.place stop
     → ReadBlames old.from.now.failures b.failures stop
 length_blames _ _ _ none (N.inl x) = grind arith
 length_blames {b = b} remaining old going _ (N.inr x) =

@@ -7,7 +7,7 @@ use Rattle.tds_cells.proofs.ValueCells.{null_cell, value_cell}
 use Rattle.tds_cells.proofs.RunSteps.{whole_of}
 use Rattle.tds_rows.proofs.LongValues.{HoldsContent, content_spelt, chunk_holds, short_holds}
 use Rattle.tds_cells.proofs.CellMeaning.{is_ok_value}
-use Rattle.tds_rows.proofs.Numbers.{Next, chunk_start, chunk_left, short_left}
+use Rattle.tds_rows.proofs.Numbers.{Next, chunk_start, chunk_left, short_fault, short_left, short_length}
 
 -- ---- elements
 
@@ -75,16 +75,17 @@ scalar_stops x = grind arith
 
 -- what is written of a cell is its spelling
 written_spelt : {from : CellPart} {last : N.Bool} {bytes text : List ℕ} → N.WritesCell from return_column last bytes text → (value : Cell)
-    × N.Spelt N.return_cell from bytes (N.WholeCell value)
+    × N.Spelt (N.cell return_column) from bytes (N.WholeCell value)
 written_spelt x = let whole = whole_of x in (whole.value, whole.spelt)
 
 -- the bytes of a scalar cell whose value isn't refused are a whole cell
 pub scalar_whole : (charset : N.Charset) (kind : N.Kind) (bytes : List ℕ) → N.is_scalar kind ≡ true → length bytes ≡ N.scalar_size kind bytes
     → (0 < N.value_length kind bytes → N.is_ok (N.read_of kind (N.value_bytes kind bytes)) ≡ true)
-    → (value : Cell) × N.Spelt N.return_cell (N.cell_start kind (shape charset kind)) bytes (N.WholeCell value)
+    → (value : Cell) × N.Spelt (N.cell return_column) (N.cell_start kind (shape charset kind)) bytes (N.WholeCell value)
 scalar_whole charset kind bytes scalar whole good = go _ refl
   where
-    go : (n : ℕ) → N.value_length kind bytes ≡ n → (value : Cell) × N.Spelt N.return_cell (N.cell_start kind (shape charset kind)) bytes (N.WholeCell value)
+    go : (n : ℕ) → N.value_length kind bytes ≡ n → (value : Cell)
+        × N.Spelt (N.cell return_column) (N.cell_start kind (shape charset kind)) bytes (N.WholeCell value)
     go N.zero e =
         let x = null_cell charset kind _ true bytes _ scalar _ refl e (omega arith) refl in
         rw (N.take_all (N.value_start kind + 0) bytes (omega arith)) at (written_spelt x)
@@ -120,7 +121,8 @@ cuts_more {m = m} {a = a} {b = b} {d = d} sum x y = record {
 
 -- a scalar cell whose value isn't refused was read
 pub scalar_passes : {kind : N.Kind} {a b : PayloadView} {place place' : ℕ} {bytes : List ℕ} (charset : N.Charset) → N.is_scalar kind ≡ true
-    → N.GathersCell kind (N.cell_start kind (shape charset kind)) return_column a b place place' bytes → N.IsGoodValue kind bytes
+    → N.GathersCell kind (N.cell_start kind (shape charset kind)) return_column a b place place' bytes
+    → (0 < N.value_length kind bytes → N.is_ok (N.read_of kind (N.value_bytes kind bytes)) ≡ true)
     → N.PassesCell (N.cell_start kind (shape charset kind)) a b place place'
 scalar_passes {bytes = bytes} _ scalar x good =
     let v = scalar_whole _ _ _ scalar x.whole good in
@@ -187,7 +189,7 @@ steps_of x = record { reads = N.reads_one _ _ _ _ _ _ x.next x.takes x.to; betwe
 module _ {c : Conversion} {size : ℕ} (any : AnyData c size) where
   -- a short value has whole units
   pub short_even : {a b : PayloadView} {place place' k : ℕ} {answer : Option ℕ}
-      → ((n : ℕ) × N.ReadsNumber 2 a b place place' n × (N.short_fault return_column size n ≡ N.None) × (answer ≡ N.short_length n)) → answer ≡ N.Some k
+      → ((n : ℕ) × N.ReadsNumber 2 a b place place' n × (short_fault return_column size n ≡ N.None) × (answer ≡ short_length n)) → answer ≡ N.Some k
       → k % size ≡ 0
   short_even x is = grind arith
 

@@ -1,6 +1,6 @@
 -- What bytes make by a grammar, and how a call that reads them and puts what they make goes from place to place.
 use Rattle.tds_rows.proofs.Words as N
-use Rattle.tds_rows.proofs.Words.{◌≡◌, ℕ, ◌+◌, ◌-◌, ◌^◌, ◌≤◌, List, [], ◌++◌, arith, Fault, Grammar, Option, Writes, SinkView, PayloadView}
+use Rattle.tds_rows.proofs.Words.{◌≡◌, ◌⊎◌, ℕ, ◌+◌, ◌-◌, ◌^◌, ◌≤◌, List, [], ◌++◌, arith, Fault, Grammar, Option, Writes, SinkView, PayloadView}
 use Rattle.tds_packet.specs.declared.payload.Payload.{Payload}
 use Rattle.tds_cells.proofs.GrammarTexts.{writes_both, writes_none}
 
@@ -66,3 +66,19 @@ module _ {S : Type 0} {g : Grammar S Fault} {text : S → List ℕ} where
 pub path_map : {S T : Type 0} {g : Grammar S Fault} {k : Grammar T Fault} {text : S → List ℕ} {whole : T → List ℕ} {s t : S} {u v : T} {p q : At}
     → ((a m : List ℕ) → Writes g text s a m t → Writes k whole u a m v) → Path g text s p q t → Path k whole u p q v
 path_map f x = search N.rules
+
+-- ---- how a cell, its end and a row stop
+
+-- A cell wasn't read whole or is refused, or a write of its text failed.
+abbrev pub StopsField : N.CellPart → ℕ → N.Bool → PayloadView → PayloadView → ℕ → SinkView → SinkView → N.Bool → N.Stop → Type 0
+StopsField from column last = N.StopsStreaming (N.cell column) (N.cell_so_far column last) from
+
+-- The content is whole, and a write of its end failed; or it isn't, and nothing was put.
+abbrev pub StopsEnding : N.Conversion → N.Bool → N.Bool → List ℕ → ℕ → ℕ → SinkView → SinkView → N.Bool → N.Stop → Type 0
+StopsEnding c quoted last content column place before after failed stop =
+    (N.IsFit c content × N.WritesPrefix before after (N.ending c quoted last content) stop × (failed ≡ N.true))
+    ⊎ ((N.IsFit c content → ⊥) × (after ≡ before) × (stop ≡ record { fault = N.BadText column; place = N.Payload place }) × (failed ≡ N.false))
+
+-- Reading a row stopped: at an element that is refused or cut, with the text of the state that it reached; or in writing.
+abbrev pub RowStops : N.Charset → N.RowPart → PayloadView → PayloadView → ℕ → SinkView → SinkView → N.Bool → N.Stop → Type 0
+RowStops charset = N.StopsStreaming (N.row charset) N.row_so_far

@@ -2,7 +2,7 @@
 use Rattle.tds_rows.proofs.Words as N
 use Rattle.tds_rows.proofs.Words.{◌≡◌, ◌∙◌, ℕ, ◌+◌, ◌^◌, ◌-◌, ◌<◌, ◌≤◌, Bool, false, List, [], ◌++◌, length, ap, arith, None, Kind, Stop, PayloadView}
 use Rattle.tds_rows.proofs.Words.{joined, SinkView, Charset, Cell, CellPart, WholeCell, cell, cell_start, field, cell_so_far}
-use Rattle.tds_rows.proofs.Paths.{At, over}
+use Rattle.tds_rows.proofs.Paths.{At, StopsField, over}
 use Rattle.tds_cells.proofs.RowTexts.{quiet_text, some_bytes, start_quiet}
 
 -- ---- cells that are read
@@ -28,7 +28,7 @@ PutsCell charset kind = N.PutsField (cell_start kind (N.shape charset kind))
 
 -- A cell of a kind stopped so.
 abbrev pub StopsCell : Charset → Kind → ℕ → Bool → PayloadView → PayloadView → ℕ → SinkView → SinkView → Bool → Stop → Type 0
-StopsCell charset kind = N.StopsField (cell_start kind (N.shape charset kind))
+StopsCell charset kind = StopsField (cell_start kind (N.shape charset kind))
 
 -- A cell of a kind was read and its text put, from one place to another; or it stopped so.
 abbrev pub PutsAt : Charset → Kind → ℕ → Bool → At → At → Type 0
@@ -78,7 +78,7 @@ module _ (kind : Kind) (s : N.Shape) (column : ℕ) (last : Bool) where
 
   -- it stopped before it had any text
   pub at_once_stalls : {a b : PayloadView} {place : ℕ} {h : SinkView} {stop : Stop} → h.delivered ≤ 2 ^ 64 - 1
-      → N.StallsCell (cell_start kind s) column a b place stop → N.StopsField (cell_start kind s) column last a b place h h false stop
+      → N.StallsCell (cell_start kind s) column a b place stop → StopsField (cell_start kind s) column last a b place h h false stop
   at_once_stalls d x = grind (arith, none_put)
 
 -- a cell that was read has some bytes

@@ -10,7 +10,7 @@ pub use Rattle.std.proofs.lemmas.List.{length-take-le}
 pub use Rattle.std.proofs.lemmas.List.{drop-drop, take_all, take-append-drop, append_cancel_left, drop_all}
 pub use Rattle.std.proofs.lemmas.Result.{MatchResult-weaker}
 pub use Rattle.std.specs.Io.KnownBytes.{Consumes}
-pub use Rattle.std.specs.Prelude.{◌==◌, if◌then◌else◌, is_ok, None, ⊤, slice_index, Option, map, Some}
+pub use Rattle.std.specs.Prelude.{◌==◌, ◌||◌, if◌then◌else◌, is_ok, nat_le, None, ⊤, slice_index, Option, map, Some}
 pub use Rattle.tds_columns.specs.Description.{Column}
 pub use Rattle.tds_columns.specs.Elements.{TakesInto, EndsInto}
 pub use Rattle.tds_columns.specs.ReturnedType.{return_column}
@@ -54,47 +54,48 @@ pub use Rattle.tds_packet.specs.Payloads.{seen, buffered, IsOnSame, IsGoing}
 pub use Rattle.tds_packet.specs.Reading.{StopsReading, CutsNext, RefusesNext}
 pub use Rattle.tds_packet.specs.PayloadView.{Takes, began_at, IsBetween, Ends, PayloadView}
 pub use Rattle.tds_packet.specs.declared.fault.Fault.{Fault}
-pub use Rattle.tds_packet.specs.declared.fault.Fault.TheVariants.{BadValue, ReadFailed, BadValueLength, MessageEnded, WriteFailed, BadText, RefusedToken}
+pub use Rattle.tds_packet.specs.declared.fault.Fault.TheVariants.{BadValue, ReadFailed, BadValueLength, MessageEnded, WriteFailed, BadText, OddText}
+pub use Rattle.tds_packet.specs.declared.fault.Fault.TheVariants.{RefusedToken}
 pub use Rattle.tds_packet.specs.declared.fault.Place.TheVariants.{Payload}
 pub use Rattle.tds_packet.specs.declared.fault.Stop.{Stop}
-pub use Rattle.tds_rows.specs.Blames.{failures_of, StopBlames, Failures}
-pub use Rattle.tds_rows.specs.CellSteps.{StallsCell, StopsField}
-pub use Rattle.tds_cells.specs.CellTexts.{IsScalarLeft, cell_so_far, is_counted, is_last_column, IsInt4}
-pub use Rattle.tds_rows.specs.CellSteps.{PutsField, GathersCell}
+pub use Rattle.tds_rows.specs.Blames.{failures_of, Failures}
+pub use Rattle.tds_rows.specs.CellSteps.{LeavesSmall, StallsCell}
+pub use Rattle.tds_cells.specs.CellTexts.{IsScalarLeft, cell_so_far, is_counted, is_last_column}
+pub use Rattle.tds_rows.specs.CellSteps.{FieldPut, PutsField, GathersCell}
 pub use Rattle.tds_cells.specs.Cells.{ShortData, ScalarLength, WholeCell, cell, ChunkLength}
 pub use Rattle.tds_cells.specs.Cells.{ShortLength, cell_start, cell_add, Null, cell_size, unless, shape}
 pub use Rattle.tds_cells.specs.Cells.{ScalarBytes, Total, field, Shape, cell_end, field_so_far, ChunkData, CellPart}
+pub use Rattle.tds_cells.specs.Cells.{known_total, null_total, unknown_total}
 pub use Rattle.tds_cells.specs.Cells.{return_charset, LongShape, shape_of_length, cell_fault, Cell, SpellsCell, long_start}
 pub use Rattle.tds_cells.specs.Cells.{DataCell}
 pub use Rattle.tds_cells.specs.Layouts.{IsLaidOut}
 pub use Rattle.tds_rows.specs.LongReading.{IsOnSameValue}
-pub use Rattle.tds_rows.specs.LongCells.{RefusesNumber, EndsData, added_text, StopsFilling, StopsEnding, total_of, chunk_length_fault, EndPut, RefusesData}
-pub use Rattle.tds_rows.specs.LongCells.{StopsData, ReadsNumber, short_length, CutsNumber, total_fault, ending, WritesPrefixOfData, short_fault, join_stop}
+pub use Rattle.tds_rows.specs.LongCells.{RefusesNumber, EndsData, added_text, StopsFilling, chunk_length_fault, EndPut, RefusesData}
+pub use Rattle.tds_rows.specs.LongCells.{StopsData, ReadsNumber, CutsBytes, ending, WritesPrefixOfData, join_stop}
 pub use Rattle.tds_rows.specs.LongCells.{opening}
-pub use Rattle.tds_rows.specs.LongCells.{FillsData, CutsData, TakesData}
+pub use Rattle.tds_rows.specs.LongCells.{FillsData, TakesData}
 pub use Rattle.tds_cells.specs.MarkedRuns.{WritesColumn, WritesMarked}
 pub use Rattle.tds_cells.specs.MarkedRuns.{WritesNext}
-pub use Rattle.tds_rows.specs.PassedCells.{CellPassed, StepsOver, StopsPassing, IsGoodValue, CutsPassing, return_cell, PassesData, PassesCell, AnyData}
+pub use Rattle.tds_rows.specs.PassedCells.{CellPassed, StepsOver, StopsPassing, CutsPassing, PassesData, PassesCell, AnyData}
 pub use Rattle.tds_rows.specs.RowRuns.{RunRead}
 pub use Rattle.tds_cells.specs.MarkedRows.{WritesNbcRows, WritesWholeRows}
-pub use Rattle.tds_rows.specs.RowReading.{BitmapRead, CellRead, KindRead, LeavesRows, IsInRow, MarkedBy, RowsTaken, StaysInRow, NextRead, TokenTaken}
-pub use Rattle.tds_rows.specs.RowSteps.{ReadsRow, ReadsRows, RowsRead, RowStops, RowsStop, SomeRead}
+pub use Rattle.tds_rows.specs.RowReading.{BitmapRead, CellRead, IsOnSameRows, LeavesRows, IsInRow, MarkedBy, NextRead, TokenTaken}
+pub use Rattle.tds_rows.specs.RowSteps.{ReadsRow, ReadsRows, RowsRead, RowsStop, SomeRead}
 pub use Rattle.tds_cells.specs.Rows.{marked, WholeRow, bitmap_length, bit, RowToken, Bitmap, PlainRow, with_cell, RowPart}
 pub use Rattle.tds_cells.specs.Rows.{row, SpellsRowAs, NbcRow, row_so_far, InCell, token_byte, row_start, token_start}
 pub use Rattle.tds_cells.specs.Rows.{next_cell, nbc_row_start}
 pub use Rattle.tds_cells.specs.Runs.{rows_so_far, rows, Writes, rows_start, after_cells, RowsPart}
-pub use Rattle.tds_rows.specs.RunPuts.{RunsRows, WritesPrefixMarked}
+pub use Rattle.tds_rows.specs.RunPuts.{PutsRun, WritesPrefixOfRun}
 pub use Rattle.tds_cells.specs.Runs.{WritesRows}
 pub use Rattle.tds_rows.specs.Successes.{SpellsRows, ReadsOn, SucceedsOn, Brings}
 pub use Rattle.tds_cells.specs.Rows.{BeginNoRow}
-pub use Rattle.tds_cells.specs.RowFormats.{IsNextKind, TakesColumn, IsCursor, KnowsSome, Knows}
+pub use Rattle.tds_cells.specs.RowFormats.{TakesColumn, IsCursor, KnowsSome, Knows}
 pub use Rattle.tds_cells.specs.WholeCells.{WritesCell, WritesWhole}
 pub use Rattle.tds_rows.specs.declared.rows.Rows.{Rows}
-pub use Rattle.tds_cells.specs.MarkedRuns.{Covers, RunsMarked, none_null, nulls_of}
-pub use Rattle.tds_cells.specs.Runs.{Ran}
+pub use Rattle.tds_cells.specs.MarkedRuns.{CellsWritten, Covers, RunsMarked, none_null, nulls_of}
+pub use Rattle.tds_cells.specs.Runs.{Ran, RunWritten}
 pub use Rattle.tds_cells.specs.declared.nulls.Nulls.{Nulls}
 pub use Rattle.tds_cells.specs.declared.nulls.Nulls.TheVariants.{Unmarked, Marked}
-pub use Rattle.tds_rows.specs.RunPuts.{RunPut}
 pub use Rattle.tds_cells.specs.declared.row_format.Cursor.{Cursor}
 pub use Rattle.tds_cells.specs.declared.row_format.RowFormat.{RowFormat}
 pub use Rattle.tds_values.specs.Front.{scalar_size, start_after, length_after, value_length, value_bytes, value_start}

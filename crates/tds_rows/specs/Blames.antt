@@ -15,10 +15,7 @@ pub record Failures : Type 0 where
 abbrev pub failures_of : {R W : Type 0} → Payload R → Sink W → Failures
 failures_of payload sink = record { reads = payload.from.now.failures; writes = sink.to.now.failures }
 
--- A stop that names a device's fault comes after one more failure of that device.
-abbrev pub StopBlames : Failures → Failures → Stop → Type 0
-StopBlames old new stop = (stop.fault ≡ ReadFailed → new.reads ≡ one_more old.reads) × (stop.fault ≡ WriteFailed → new.writes ≡ one_more old.writes)
-
--- A success has no failure; a stop that names a device's fault comes after one.
+-- A success has no failure; a stop that names a device's fault comes after one more failure of that device.
 abbrev pub Blames : {U : Type 0} → Failures → Failures → Result U Stop → Type 0
-Blames old new result = MatchResult result (λ _. new ≡ old) (λ stop. StopBlames old new stop)
+Blames old new result = MatchResult result (λ _. new ≡ old)
+    (λ stop. (stop.fault ≡ ReadFailed → new.reads ≡ one_more old.reads) × (stop.fault ≡ WriteFailed → new.writes ≡ one_more old.writes))

@@ -9,7 +9,7 @@ use Rattle.tds_packet.specs.declared.fault.Fault.TheVariants.{BadValue}
 use Rattle.tds_packet.specs.declared.fault.Place.TheVariants.{Payload}
 use Rattle.tds_packet.specs.declared.fault.Stop.{Stop}
 use Rattle.tds_packet.specs.declared.payload.Payload as payloads
-use Rattle.tds_packet.specs.Payloads.{IsGoing, LeavesPayload, seen}
+use Rattle.tds_packet.specs.Payloads.{LeavesPayload, seen}
 use Rattle.tds_packet.specs.Reading.{StopsReading}
 use Rattle.tds_packet.specs.PayloadView.{PayloadView, Takes, IsBetween}
 use Rattle.tds_csv.specs.declared.sink.Sink.{Sink}
@@ -30,10 +30,6 @@ pub record PutsField (from : CellPart) (column : ℕ) (last : Bool) (old new : P
   pub streams : Streams (cell column) (cell_so_far column last) from old new before after (WholeCell value)
   pub place_is : place' ≡ place + length streams.bytes
 
--- A cell wasn't read whole or is refused, or a write of its text failed.
-abbrev pub StopsField : CellPart → ℕ → Bool → PayloadView → PayloadView → ℕ → SinkView → SinkView → Bool → Stop → Type 0
-StopsField from column last = StopsStreaming (cell column) (cell_so_far column last) from
-
 -- The bytes of a scalar cell were read, whose length is allowed; and if its value is refused, this is the stop.
 pub record GathersCell (kind : Kind) (from : CellPart) (column : ℕ) (old new : PayloadView) (place place' : ℕ) (bytes : List ℕ) : Type 0 where
   pub whole : length bytes ≡ scalar_size kind bytes
@@ -46,12 +42,6 @@ pub record GathersCell (kind : Kind) (from : CellPart) (column : ℕ) (old new :
 -- the most bytes that a cell of a scalar kind has: a length and a decimal
 abbrev pub longest_cell : ℕ
 longest_cell = 18
-
--- A cell is to be gathered: the payload hands out bytes, and this area is empty and has room for the longest.
-pub record IsGathering {R : Type 0} (p : payloads.Payload R) (small : Space) : Type 0 where
-  pub payload : IsGoing p
-  pub empty : small.bytes ≡ []
-  pub room : longest_cell ≤ small.room
 
 -- The area in which cells are gathered has the room that it had, and held no more than before or than a cell.
 pub record LeavesSmall (before after : Space) : Type 0 where
@@ -70,10 +60,10 @@ CellGathered remaining kind from column old new cell result = MatchResult result
     (λ _. GathersCell kind from column (seen remaining old) (seen remaining new) old.place new.place cell)
     (λ stop. StallsCell from column (seen remaining old) (seen remaining new) old.place stop)
 
--- A cell was read from its first element on and its text put, or the call stopped.
+-- A cell was read from its first element on and its text put; or the call stopped, since it wasn't whole or is refused, or a write of its text failed.
 abbrev pub FieldPut : {R W U : Type 0} → (R → Option (List ℕ)) → (W → Option (List ℕ)) → CellPart → ℕ → Bool → payloads.Payload R → payloads.Payload R
     → Sink W → Sink W → Result U Stop → Type 0
 FieldPut remaining contents from column last old new before after result = MatchResult result
     (λ _. PutsField from column last (seen remaining old) (seen remaining new) old.place new.place (held contents before) (held contents after))
-    (λ stop. StopsField from column last (seen remaining old) (seen remaining new) old.place (held contents before) (held contents after) after.failed
-    stop)
+    (λ stop. StopsStreaming (cell column) (cell_so_far column last) from (seen remaining old) (seen remaining new) old.place (held contents before)
+    (held contents after) after.failed stop)

@@ -1,5 +1,5 @@
 -- What the parts of reading a long value do: its lengths, the pieces of its content, and its end.
-use Rattle.std.specs.Prelude.{◌≡◌, ◌⊎◌, ◌==◌, ◌||◌, ◌%◌, ◌^◌, ℕ, ◌+◌, ◌-◌, ◌<◌, ◌≤◌, Bool, true, false, List, [], ◌∷◌, ◌++◌, length, nat_le, Option}
+use Rattle.std.specs.Prelude.{◌≡◌, ◌⊎◌, ◌==◌, ◌%◌, ◌^◌, ℕ, ◌+◌, ◌-◌, ◌<◌, ◌≤◌, Bool, true, false, List, [], ◌∷◌, ◌++◌, length, Option}
 use Rattle.std.specs.Prelude.{Some, None, Result, MatchResult, if◌then◌else◌}
 use Rattle.tds_values.specs.Numbers.{little}
 use Rattle.tds_packet.specs.declared.fault.Fault.{Fault}
@@ -7,7 +7,7 @@ use Rattle.tds_packet.specs.declared.fault.Fault.TheVariants.{BadText, OddText, 
 use Rattle.tds_packet.specs.declared.fault.Place.TheVariants.{Payload}
 use Rattle.tds_packet.specs.declared.fault.Stop.{Stop}
 use Rattle.tds_packet.specs.declared.payload.Payload as payloads
-use Rattle.tds_packet.specs.Payloads.{seen}
+use Rattle.tds_packet.specs.Payloads.{LeavesPayload, seen}
 use Rattle.tds_packet.specs.PayloadView.{PayloadView, Takes, Ends, IsBetween, began_at}
 use Rattle.tds_text.specs.Conversion.{BeginsData, Conversion, IsFit, closing, conversion_rest, conversion_text}
 use Rattle.tds_text.specs.Joining.{emit}
@@ -17,7 +17,7 @@ use Rattle.tds_csv.specs.declared.joiners.JoinFault.TheVariants as join_faults
 use Rattle.tds_text.specs.Quoting.{binary_mark, end_after, quote}
 use Rattle.tds_csv.specs.declared.sink.Sink.{Sink}
 use Rattle.tds_csv.specs.Sinks.{WritesPrefix, SinkView, Puts, held}
-use Rattle.tds_cells.specs.Cells.{is_total, known_total, null_total, unknown_total, unless, within_total}
+use Rattle.tds_cells.specs.Cells.{is_total, unless, within_total}
 
 -- what comes before the text of a long value
 abbrev pub opening : Bool → List ℕ
@@ -35,8 +35,8 @@ pub record ReadsNumber (size : ℕ) (old new : PayloadView) (place place' n : �
   pub between : IsBetween new
   pub place_is : place' ≡ place + size
 
--- The payload stopped in it.
-pub record CutsNumber (size : ℕ) (old new : PayloadView) (place : ℕ) (stop : Stop) : Type 0 where
+-- The payload stopped before it handed out this number of bytes.
+pub record CutsBytes (size : ℕ) (old new : PayloadView) (place : ℕ) (stop : Stop) : Type 0 where
   pub part : List ℕ
   pub own : Stop
   pub fewer : length part < size
@@ -51,27 +51,14 @@ pub record RefusesNumber (size : ℕ) (fault : ℕ → Option Fault) (old new : 
   pub first : fault n ≡ Some stop.fault
   pub stands : stop.place ≡ Payload place
 
--- A number was read, or the payload stopped in it.
-abbrev pub NumberRead : {R : Type 0} → (R → Option (List ℕ)) → ℕ → payloads.Payload R → payloads.Payload R → Result ℕ Stop → Type 0
-NumberRead remaining size old new result = MatchResult result
-    (λ n. ReadsNumber size (seen remaining old) (seen remaining new) old.place new.place n)
-    (λ stop. CutsNumber size (seen remaining old) (seen remaining new) old.place stop)
-
--- A number without such a fault was read, and this is what it means; or it is refused, or the payload stopped in it.
-abbrev pub LengthRead : {R A : Type 0} → (R → Option (List ℕ)) → ℕ → (ℕ → Option Fault) → (ℕ → A) → payloads.Payload R → payloads.Payload R
-    → Result A Stop → Type 0
-LengthRead remaining size fault says old new result = MatchResult result
-    (λ answer. (n : ℕ) × ReadsNumber size (seen remaining old) (seen remaining new) old.place new.place n × (fault n ≡ None) × (answer ≡ says n))
-    (λ stop. RefusesNumber size fault (seen remaining old) (seen remaining new) old.place stop
-    ⊎ CutsNumber size (seen remaining old) (seen remaining new) old.place stop)
-
--- the fault of the length of a short value, by the bytes of a unit
-abbrev pub short_fault : ℕ → ℕ → ℕ → Option Fault
-short_fault column size n = unless ((n == 0xFFFF) || (n % size == 0)) (OddText column)
-
--- the fault of a total
-abbrev pub total_fault : ℕ → ℕ → ℕ → Option Fault
-total_fault column size n = unless (nat_le unknown_total n || (n % size == 0)) (OddText column)
+-- A length of this many bytes without such a fault was read, and this is what it means; or it is refused, or the payload stopped in it.
+pub record LengthTaken {R A : Type 0} (remaining : R → Option (List ℕ)) (size : ℕ) (fault : ℕ → Option Fault) (says : ℕ → A)
+    (old new : payloads.Payload R) (result : Result A Stop) : Type 0 where
+  pub payload : LeavesPayload old new result
+  pub length : MatchResult result
+      (λ answer. (n : ℕ) × ReadsNumber size (seen remaining old) (seen remaining new) old.place new.place n × (fault n ≡ None) × (answer ≡ says n))
+      (λ stop. RefusesNumber size fault (seen remaining old) (seen remaining new) old.place stop
+      ⊎ CutsBytes size (seen remaining old) (seen remaining new) old.place stop)
 
 -- the fault of a terminator after this many bytes of content, but for what the content itself has
 abbrev pub end_fault : ℕ → ℕ → Option ℕ → ℕ → Option Fault
@@ -81,14 +68,6 @@ end_fault column size total sum = if is_total total sum then unless (sum % size 
 abbrev pub chunk_length_fault : ℕ → ℕ → Option ℕ → ℕ → ℕ → Option Fault
 chunk_length_fault column size total sum n =
     if n == 0 then end_fault column size total sum else unless (within_total total (sum + n)) (PlpLength column)
-
--- a length, unless it stands for NULL
-abbrev pub short_length : ℕ → Option ℕ
-short_length n = if n == 0xFFFF then None else Some n
-
--- what a total says: nothing of NULL, else how many bytes there are, if that is known
-abbrev pub total_of : ℕ → Option (Option ℕ)
-total_of n = if n == null_total then None else Some (known_total n)
 
 -- ---- content
 
@@ -107,13 +86,6 @@ pub record TakesData (c : Conversion) (content kept : List ℕ) (old new : Paylo
   pub begun : BeginsData c (content ++ piece)
   pub puts : Puts before after (added_text c content piece)
   pub kept_is : kept ≡ conversion_rest c (content ++ piece)
-
--- The payload stopped before the next byte.
-pub record CutsData (old new : PayloadView) (place : ℕ) (before after : SinkView) (stop : Stop) : Type 0 where
-  pub own : Stop
-  pub ends : Ends old new [] own
-  pub stop_is : stop ≡ began_at place own
-  pub same : after ≡ before
 
 -- A piece was read; its first bytes and their text are good, and the next one is bad.
 pub record RefusesData (c : Conversion) (content : List ℕ) (column most : ℕ) (old new : PayloadView) (place : ℕ) (before after : SinkView)
@@ -140,10 +112,10 @@ pub record WritesPrefixOfData (c : Conversion) (content : List ℕ) (most : ℕ)
   pub begun : BeginsData c (content ++ good)
   pub breaks : WritesPrefix before after (added_text c content good) stop
 
--- The next piece of the content stopped, of at most this many bytes.
+-- The next piece of the content stopped, of at most this many bytes: before its first one, at one that is refused, or in writing.
 abbrev pub StopsData : Conversion → List ℕ → ℕ → ℕ → PayloadView → PayloadView → ℕ → SinkView → SinkView → Bool → Stop → Type 0
 StopsData c content column most old new place before after failed stop =
-    (CutsData old new place before after stop × (failed ≡ false))
+    (CutsBytes 1 old new place stop × (after ≡ before) × (failed ≡ false))
     ⊎ ((RefusesData c content column most old new place before after stop × (failed ≡ false))
     ⊎ (WritesPrefixOfData c content most old new before after stop × (failed ≡ true)))
 
@@ -211,14 +183,10 @@ join_stop column place fault = record { fault = BadText column; place = Payload 
 abbrev pub ending : Conversion → Bool → Bool → List ℕ → List ℕ
 ending c quoted last content = conversion_text c (conversion_rest c content) ++ (closing quoted ++ end_after last)
 
--- The content is whole, and a write of its end failed; or it isn't, and nothing was put.
-abbrev pub StopsEnding : Conversion → Bool → Bool → List ℕ → ℕ → ℕ → SinkView → SinkView → Bool → Stop → Type 0
-StopsEnding c quoted last content column place before after failed stop =
-    (IsFit c content × WritesPrefix before after (ending c quoted last content) stop × (failed ≡ true))
-    ⊎ ((¬ (IsFit c content)) × (after ≡ before) × (stop ≡ record { fault = BadText column; place = Payload place }) × (failed ≡ false))
-
--- The content is whole and its end was put, or that stopped.
+-- The content is whole and its end was put, or a write of that failed; or it isn't whole, and nothing was put.
 abbrev pub EndPut : {W U : Type 0} → (W → Option (List ℕ)) → Conversion → Bool → Bool → List ℕ → ℕ → ℕ → Sink W → Sink W → Result U Stop → Type 0
 EndPut contents c quoted last content column place before after result = MatchResult result
     (λ _. IsFit c content × Puts (held contents before) (held contents after) (ending c quoted last content))
-    (λ stop. StopsEnding c quoted last content column place (held contents before) (held contents after) after.failed stop)
+    (λ stop. (IsFit c content × WritesPrefix (held contents before) (held contents after) (ending c quoted last content) stop × (after.failed ≡ true))
+    ⊎ ((¬ (IsFit c content)) × (held contents after ≡ held contents before) × (stop ≡ record { fault = BadText column; place = Payload place })
+    × (after.failed ≡ false)))

@@ -3,12 +3,11 @@ use Rattle.std.specs.Prelude.{⊤, ◌≡◌, ◌==◌, ◌+◌, ◌<◌, ◌≤
 use Rattle.tds_values.specs.declared.kind.Kind.{Kind}
 use Rattle.tds_packet.specs.declared.fault.Stop.{Stop}
 use Rattle.tds_packet.specs.declared.payload.Payload.{Payload}
-use Rattle.tds_packet.specs.Payloads.{IsGoing, IsOnSame, IsSound, LeavesPayload, buffered, seen}
+use Rattle.tds_packet.specs.Payloads.{IsGoing, IsSound, LeavesPayload, buffered, seen}
 use Rattle.tds_packet.specs.PayloadView.{IsBetween, Takes}
-use Rattle.tds_columns.specs.Description.{Column}
 use Rattle.tds_text.specs.Quoting.{in_line, null_field}
 use Rattle.tds_csv.specs.declared.sink.Sink.{Sink}
-use Rattle.tds_csv.specs.Sinks.{IsOnSameSink, IsReady, Puts, held, IsWriting, LeavesSink, PutsPiece}
+use Rattle.tds_csv.specs.Sinks.{IsReady, IsWriting, LeavesSink, PutsPiece}
 use Rattle.tds_rows.specs.declared.rows.Rows.{Rows}
 use Rattle.tds_cells.specs.declared.row_format.Cursor.{Cursor}
 use Rattle.tds_cells.specs.declared.layout.CellFormat.{CellFormat}
@@ -17,13 +16,10 @@ use Rattle.tds_cells.specs.Cells.{cell_start, shape}
 use Rattle.tds_meter.specs.Space.{Space}
 use Rattle.tds_rows.specs.CellSteps.{FieldPut, LeavesSmall, longest_cell}
 use Rattle.tds_cells.specs.Rows.{NbcRow, PlainRow, RowToken, bitmap_length, longest_bitmap, token_byte}
-use Rattle.tds_cells.specs.MarkedRows.{WritesWholeRows}
-use Rattle.tds_cells.specs.MarkedRuns.{Covers}
 use Rattle.tds_cells.specs.declared.nulls.Nulls.{Nulls}
 use Rattle.tds_cells.specs.declared.nulls.Nulls.TheVariants.{Marked, Unmarked}
-use Rattle.tds_rows.specs.LongCells.{CutsNumber}
+use Rattle.tds_rows.specs.LongCells.{CutsBytes}
 use Rattle.tds_cells.specs.Rows.{BeginNoRow}
-use Rattle.tds_cells.specs.RowFormats.{IsNextKind, KnowsSome}
 
 -- A call may be made that reads a row: payload and sink go on or give their stop again, and the small area has room for a cell.
 pub record IsReadyForRow {R W : Type 0} (payload : Payload R) (sink : Sink W) (small : Space) : Type 0 where
@@ -31,21 +27,11 @@ pub record IsReadyForRow {R W : Type 0} (payload : Payload R) (sink : Sink W) (s
   pub ready : IsReady sink
   pub room : longest_cell ≤ small.room
 
--- A call may be made that reads an NBCROW: the bitmap's area has room for the longest, too.
-pub record IsReadyForNbcRow {R W : Type 0} (payload : Payload R) (sink : Sink W) (small bitmap : Space) : Type 0 where
-  pub row : IsReadyForRow payload sink small
-  pub fits : longest_bitmap ≤ bitmap.room
-
 -- Rows can be read: payload and sink go on, and the small area has room for a cell.
 pub record AwaitsRows {R W : Type 0} (payload : Payload R) (sink : Sink W) (small : Space) : Type 0 where
   pub going : IsGoing payload
   pub writing : IsWriting sink
   pub room : longest_cell ≤ small.room
-
--- NBCROWs can be read: the bitmap's area has room for the longest, too.
-pub record AwaitsNbcRows {R W : Type 0} (payload : Payload R) (sink : Sink W) (small bitmap : Space) : Type 0 where
-  pub rows : AwaitsRows payload sink small
-  pub fits : longest_bitmap ≤ bitmap.room
 
 -- A call left payload and sink in order and, if it returned no error, going on, and no more than a cell in the small area.
 pub record LeavesLent {R W U : Type 0} (old new : Payload R) (before after : Sink W) (room left : Space) (result : Result U Stop) : Type 0 where
@@ -59,22 +45,11 @@ pub record IsInRow {R W : Type 0} (rows : Rows R W) : Type 0 where
   pub sink : IsWriting rows.sink.now
   pub room : longest_cell ≤ rows.small.now.room
 
--- A row of some columns is being read.
-pub record IsInSomeRow {R W : Type 0} (rows : Rows R W) : Type 0 where
-  pub in_row : IsInRow rows
-  pub knows : KnowsSome rows.row_format.now
-
 -- A row is being read, and its next cell is of this format.
 pub record IsAtCell {R W : Type 0} (rows : Rows R W) (at : Cursor) (format : CellFormat) : Type 0 where
   pub in_row : IsInRow rows
   pub within : at.column < rows.row_format.now.count
   pub laid : IsLaidOut rows.row_format.now.charset format.kind format.layout
-
--- A row of some columns is being read, those of which are NULL by a bit of these.
-pub record IsInMarkedRow {R W : Type 0} (rows : Rows R W) (nulls : Nulls) : Type 0 where
-  pub in_row : IsInRow rows
-  pub some : 0 < rows.row_format.now.count
-  pub covers : Covers nulls rows.row_format.now.count
 
 -- Two readings are on the same payload, sink and area, by the same row format.
 abbrev pub IsOnSameRows : {R W : Type 0} → Rows R W → Rows R W → Type 0
@@ -88,26 +63,12 @@ pub record LeavesRows {R W U : Type 0} (old new : Rows R W) (result : Result U S
   pub sink : LeavesSink old.sink.now new.sink.now result
   pub small : LeavesSmall old.small.now new.small.now
 
--- A row is still being read, on the same devices and area, by the same row format, with no more than a cell gathered.
-pub record StaysInRow {R W : Type 0} (old new : Rows R W) : Type 0 where
-  pub in_row : IsInRow new
-  pub same : IsOnSameRows old new
-  pub payload : IsOnSame old.payload.now new.payload.now
-  pub sink : IsOnSameSink old.sink.now new.sink.now
-  pub small : LeavesSmall old.small.now new.small.now
-
--- The cell of this kind after this many columns, the row's last or not, was read and its text put, or the call stopped.
-abbrev pub KindRead : {R W U : Type 0} → (R → Option (List ℕ)) → (W → Option (List ℕ)) → ℕ → Bool → Kind → Rows R W → Rows R W → Result U Stop
-    → Type 0
-KindRead remaining contents column last kind old new result =
-    FieldPut remaining contents (cell_start kind (shape old.row_format.now.charset kind)) column last old.payload.now new.payload.now
-    old.sink.now new.sink.now result
-
 -- The next cell, of this kind, was read and its text put, or the call stopped.
 pub record CellRead {R W U : Type 0} (remaining : R → Option (List ℕ)) (contents : W → Option (List ℕ)) (at : Cursor) (kind : Kind) (old new : Rows R W)
     (result : Result U Stop) : Type 0 where
   pub leaves : LeavesRows old new result
-  pub cell : (last : Bool) → IsNextKind old.row_format.now at kind last → KindRead remaining contents at.column last kind old new result
+  pub cell : FieldPut remaining contents (cell_start kind (shape old.row_format.now.charset kind)) at.column
+      (at.column + 1 == old.row_format.now.count) old.payload.now new.payload.now old.sink.now new.sink.now result
 
 -- The next cell was put, NULL or, of this kind, as it was read, or the call stopped.
 abbrev pub NextRead : {R W U : Type 0} → (R → Option (List ℕ)) → (W → Option (List ℕ)) → Cursor → Kind → Bool → Rows R W → Rows R W → Result U Stop
@@ -135,18 +96,7 @@ BitmapRead remaining PlainRow old new bytes columns result = (new ≡ old) × (i
 BitmapRead remaining NbcRow old new bytes columns result = MatchResult result
     (λ _. (length bytes ≡ bitmap_length columns) × Takes (seen remaining old) (seen remaining new) bytes (length bytes)
     × IsBetween (seen remaining new) × (new.place ≡ old.place + length bytes))
-    (λ stop. CutsNumber (bitmap_length columns) (seen remaining old) (seen remaining new) old.place stop)
-
--- This many NBCROWs were read from this state on, without a packet, each before the token byte of the next, which was read too, and one more if that is
--- the last; and their lines were put.
-pub record RowsTaken {R W : Type 0} (remaining : R → Option (List ℕ)) (contents : W → Option (List ℕ)) (columns : List Column) (old new : Rows R W)
-    (count : ℕ) (last : Bool) : Type 0 where
-  pub bytes : List ℕ
-  pub text : List ℕ
-  pub writes : WritesWholeRows old.row_format.now.charset columns count last bytes text
-  pub takes : Takes (seen remaining old.payload.now) (seen remaining new.payload.now) bytes 0
-  pub puts : Puts (held contents old.sink.now) (held contents new.sink.now) text
-  pub place_is : new.payload.now.place ≡ old.payload.now.place + length bytes
+    (λ stop. CutsBytes (bitmap_length columns) (seen remaining old) (seen remaining new) old.place stop)
 
 -- The token byte of one more row was taken; or, if the result is false, nothing was, and none is next in the packet.
 abbrev pub TokenTaken : {R : Type 0} → (R → Option (List ℕ)) → RowToken → Payload R → Payload R → Bool → Type 0

@@ -4,13 +4,12 @@ use Rattle.tds_packet.specs.declared.fault.Stop.{Stop}
 use Rattle.tds_rows.specs.declared.rows.Rows.{Rows}
 use Rattle.tds_cells.specs.declared.row_format.Cursor.{Cursor}
 use Rattle.tds_cells.specs.MarkedRuns.{nulls_of}
-use Rattle.tds_cells.specs.RowFormats.{IsCursor, Knows}
-use Rattle.tds_columns.specs.Description.{Column}
+use Rattle.tds_cells.specs.Runs.{RunWritten}
 use Rattle.tds_csv.specs.Sinks.{held}
 use Rattle.tds_packet.specs.Payloads.{seen}
 use Rattle.tds_cells.specs.declared.nulls.Nulls.{Nulls}
 use Rattle.tds_rows.specs.RowReading.{LeavesRows}
-use Rattle.tds_rows.specs.RunPuts.{RunPut, WritesPrefixMarked}
+use Rattle.tds_rows.specs.RunPuts.{PutsRun, WritesPrefixOfRun}
 
 -- The cells of a run from one place to another were read and their text put, over the ends of so many rows; or a write of it failed, in the row that
 -- the run began in.
@@ -19,7 +18,7 @@ pub record RunRead {R W : Type 0} (remaining : R → Option (List ℕ)) (content
   pub leaves : LeavesRows old new result
   pub few : IfOk result (λ count. old.payload.now.place + count ≤ new.payload.now.place)
   pub cells : MatchResult result
-      (λ count. RunPut remaining contents old.row_format.now nulls from to count old.payload.now new.payload.now old.sink.now new.sink.now)
-      (λ stop. (columns : List Column) → Knows old.row_format.now columns → IsCursor old.row_format.now columns from →
-      WritesPrefixMarked old.row_format.now columns (nulls_of nulls) from (seen remaining old.payload.now) (seen remaining new.payload.now)
+      (λ count. PutsRun (RunWritten old.row_format.now nulls from to count) (seen remaining old.payload.now) (seen remaining new.payload.now)
+      old.payload.now.place new.payload.now.place (held contents old.sink.now) (held contents new.sink.now))
+      (λ stop. WritesPrefixOfRun old.row_format.now (nulls_of nulls) from (seen remaining old.payload.now) (seen remaining new.payload.now)
       (held contents old.sink.now) (held contents new.sink.now) new.sink.now.failed stop)

@@ -19,17 +19,14 @@ pub record ReadsRow (charset : Charset) (start : RowPart) (old new : PayloadView
   pub streams : Streams (row charset) row_so_far start old new before after (WholeRow cells)
   pub place_is : place' ≡ place + length streams.bytes
 
--- Reading a row stopped: at an element that is refused or cut, with the text of the state that it reached; or in writing.
-abbrev pub RowStops : Charset → RowPart → PayloadView → PayloadView → ℕ → SinkView → SinkView → Bool → Stop → Type 0
-RowStops charset = StopsStreaming (row charset) row_so_far
-
--- A row was read and its line put, or the call stopped.
+-- A row was read and its line put, or the call stopped: at an element that is refused or cut, with the text of the state that it reached; or in
+-- writing.
 abbrev pub RowPut : {R W U : Type 0} → (R → Option (List ℕ)) → (W → Option (List ℕ)) → Charset → RowPart → Payload R → Payload R → Sink W → Sink W
     → Result U Stop → Type 0
 RowPut remaining contents charset start old new before after result = MatchResult result
     (λ _. ReadsRow charset start (seen remaining old) (seen remaining new) old.place new.place (held contents before) (held contents after))
-    (λ stop. RowStops charset start (seen remaining old) (seen remaining new) old.place (held contents before) (held contents after) after.failed
-    stop)
+    (λ stop. StopsStreaming (row charset) row_so_far start (seen remaining old) (seen remaining new) old.place (held contents before)
+    (held contents after) after.failed stop)
 
 -- Rows were read, this many, and their lines put.
 pub record ReadsRows (token : RowToken) (charset : Charset) (columns : List Column) (count : ℕ) (old new : PayloadView) (place place' : ℕ)
@@ -50,7 +47,7 @@ pub record RowsStop (token : RowToken) (charset : Charset) (columns : List Colum
   pub between : SinkView
   pub streams : Streams (rows token charset columns) rows_so_far (rows_start token charset columns) old middle before between
       (record { before = earlier; at = part })
-  pub stops : RowStops charset part middle new (place + length streams.bytes) between after failed stop
+  pub stops : StopsStreaming (row charset) row_so_far part middle new (place + length streams.bytes) between after failed stop
 
 -- Rows were read and their lines put, or the call stopped in one of them.
 abbrev pub RowsRead : {R W : Type 0} → (R → Option (List ℕ)) → (W → Option (List ℕ)) → RowToken → Charset → List Column → Payload R → Payload R
@@ -74,8 +71,3 @@ pub record StopsAgain {R W U : Type 0} (contents : W → Option (List ℕ)) (old
     0 where
   pub stopped : IfSome old.stopped (λ stop. (result ≡ Err stop) × (new ≡ old) × (after ≡ before))
   pub failed : old.stopped ≡ None → before.failed ≡ true → (result ≡ Err (stop_of (held contents before))) × (new ≡ old) × (after ≡ before)
-
--- This is the stop of a payload or a sink that had stopped, the payload's first; with none, both go on.
-abbrev pub IsEarlierStop : {R W : Type 0} → (W → Option (List ℕ)) → Payload R → Sink W → Option Stop → Type 0
-IsEarlierStop contents payload sink result = MatchOption result ((payload.stopped ≡ None) × (sink.failed ≡ false))
-    (λ stop. (payload.stopped ≡ Some stop) ⊎ ((payload.stopped ≡ None) × (sink.failed ≡ true) × (stop ≡ stop_of (held contents sink))))

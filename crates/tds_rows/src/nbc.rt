@@ -1,12 +1,15 @@
 // What a bitmap adds to a row: the columns that are NULL by their bit, and rows that go at once (MS-TDS, NBCROW).
-ghost use Rattle.std.specs.Prelude.{true, false, ◌≡◌, ◌+◌, ◌≤◌, [], List, ℕ, refl};
+ghost use Rattle.std.specs.Prelude.{true, false, ◌≡◌, ◌+◌, ◌≤◌, [], List, Ok, ℕ, refl};
 ghost use Rattle.tds_cells.specs.Rows.{BeginNoRow, NbcRow, PlainRow, RowToken, longest_bitmap, token_byte};
 ghost use Rattle.tds_columns.specs.Description.{Column};
 ghost use Rattle.tds_meter.specs.Space.{Space, empty};
-ghost use Rattle.tds_packet.specs.Payloads.{IsGoing, LeavesPayload, buffered};
+ghost use Rattle.tds_packet.specs.Payloads.{IsGoing, LeavesPayload, buffered, seen};
 ghost use Rattle.tds_packet.specs.Reads.{KeepsRoom};
-ghost use Rattle.tds_rows.specs.RowReading.{AwaitsBitmap, BitmapRead, IsAtCell, IsInSomeRow, LeavesRows, MarkedBy, NextRead, RowsTaken, StaysInRow};
-ghost use Rattle.tds_cells.specs.RowFormats.{Knows};
+ghost use Rattle.tds_rows.specs.RowReading.{AwaitsBitmap, BitmapRead, IsAtCell, IsInRow, LeavesRows, MarkedBy, NextRead};
+ghost use Rattle.tds_rows.specs.RunPuts.{PutsRun};
+ghost use Rattle.tds_cells.specs.MarkedRows.{WritesWholeRows};
+ghost use Rattle.tds_cells.specs.RowFormats.{Knows, KnowsSome};
+ghost use Rattle.tds_csv.specs.Sinks.{held};
 
 use crate::cell::null::put_null;
 use crate::rows::Rows;
@@ -118,13 +121,17 @@ impl<'r, 't, 'p, 's, 'c, R: Read, W: Write> Rows<'r, 't, 'p, 's, 'c, R, W> {
     /// and takes the token byte after each but the last. It reads nothing and delivers nothing. Of ROWs it takes none.
     #[inline(always)]
     pub(crate) fn put_whole_rows<M: Marks>(&mut self) -> PutRows
-        requires { IsInSomeRow self.old }
-        ensures stays { StaysInRow self.old self.new }
+        requires in_row { IsInRow self.old }
+        requires knows { KnowsSome self.old.row_format.now }
+        ensures stays { LeavesRows self.old self.new (Ok result) }
         ensures few { self.old.payload.now.place + result.rows ≤ self.new.payload.now.place }
         ensures none { result.last ≡ true → BeginNoRow M.token (buffered self.new.payload.now) }
         ensures plain { M.token ≡ PlainRow → (result.rows ≡ 0) × (result.last ≡ false) }
         ensures rows { (columns : List Column) → Knows self.old.row_format.now columns →
-            RowsTaken R.remaining W.contents columns self.old self.new result.rows result.last }
+            PutsRun (WritesWholeRows self.old.row_format.now.charset columns result.rows result.last)
+            (seen R.remaining self.old.payload.now) (seen R.remaining self.new.payload.now)
+            self.old.payload.now.place self.new.payload.now.place
+            (held W.contents self.old.sink.now) (held W.contents self.new.sink.now) }
     {
         let room = self.sink.room() - 1;
         let short = SHORT_CELL * self.row_format.count() as usize;

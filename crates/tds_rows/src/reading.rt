@@ -1,12 +1,12 @@
 // The calls that read rows, one or several after one another (MS-TDS, ROW and NBCROW).
-ghost use Rattle.std.specs.Prelude.{◌≡◌, ◌≤◌, ◌++◌, ℕ, List, None, false, IfOk};
+ghost use Rattle.std.specs.Prelude.{◌≡◌, ◌⊎◌, ◌≤◌, ◌++◌, ℕ, List, None, Some, false, true, IfOk, MatchOption};
 ghost use Rattle.tds_columns.specs.View.{columns_of};
 ghost use Rattle.tds_packet.specs.Reads.{KeepsRoom};
+ghost use Rattle.tds_csv.specs.Sinks.{held, stop_of};
 ghost use Rattle.tds_cells.specs.Cells.{Cell};
-ghost use Rattle.tds_cells.specs.Formats.{most_known};
-ghost use Rattle.tds_rows.specs.RowReading.{AwaitsNbcRows, AwaitsRows, EndsRows, IsReadyForNbcRow, IsReadyForRow, LeavesLent};
-ghost use Rattle.tds_rows.specs.RowSteps.{IsEarlierStop, RowPut, RowsRead, StopsAgain};
-ghost use Rattle.tds_cells.specs.Rows.{NbcRow, PlainRow, SpellsNbcRow, SpellsRow, nbc_row_start, row_start};
+ghost use Rattle.tds_rows.specs.RowReading.{AwaitsRows, EndsRows, IsReadyForRow, LeavesLent};
+ghost use Rattle.tds_rows.specs.RowSteps.{RowPut, RowsRead, StopsAgain};
+ghost use Rattle.tds_cells.specs.Rows.{NbcRow, PlainRow, SpellsNbcRow, SpellsRow, longest_bitmap, nbc_row_start, row_start};
 ghost use Rattle.tds_cells.specs.RowFormats.{Learns};
 ghost use Rattle.tds_cells.specs.Rows.{BeginNoRow};
 ghost use Rattle.tds_rows.specs.Successes.{SpellsRows, SucceedsOn};
@@ -23,7 +23,9 @@ use tds_values::Charset;
 
 /// The stop of a payload or a sink that had stopped, the payload's first.
 pub(crate) fn earlier_stop<R: Read, W: Write>(payload: &Payload<R>, sink: &Sink<W>) -> Option<Stop>
-    ensures { IsEarlierStop W.contents payload.now sink.now result }
+    ensures { MatchOption result ((payload.now.stopped ≡ None) × (sink.now.failed ≡ false))
+        (λ stop. (payload.now.stopped ≡ Some stop)
+        ⊎ ((payload.now.stopped ≡ None) × (sink.now.failed ≡ true) × (stop ≡ stop_of (held W.contents sink.now)))) }
 {
     if let Some(stop) = payload.stopped() {
         return Some(stop);
@@ -84,7 +86,8 @@ fn rows_in<'a, M: Marks, R: Read, W: Write>(
     sink: &mut Sink<W>,
 ) -> Result<u64, Stop>
     requires learnt { Learns (columns_of columns.bytes.now) charset formats.now learnt }
-    requires rows { AwaitsNbcRows payload.old sink.old small.old (M.space marks.old) }
+    requires rows { AwaitsRows payload.old sink.old small.old }
+    requires fits { longest_bitmap ≤ (M.space marks.old).room }
     ensures leaves { LeavesLent payload.old payload.new sink.old sink.new small.old small.new result }
     ensures room { KeepsRoom (M.space marks.old) (M.space marks.new) }
     ensures ends { IfOk result (λ count. EndsRows M.token payload.old payload.new count) }
@@ -113,8 +116,9 @@ fn rows_by<const N: usize, M: Marks, R: Read, W: Write>(
     small: &mut Area,
     sink: &mut Sink<W>,
 ) -> Result<u64, Stop>
-    requires few { N ≤ most_known }
-    requires rows { AwaitsNbcRows payload.old sink.old small.old (M.space marks.old) }
+    requires few { N ≤ 1024 }
+    requires rows { AwaitsRows payload.old sink.old small.old }
+    requires fits { longest_bitmap ≤ (M.space marks.old).room }
     ensures leaves { LeavesLent payload.old payload.new sink.old sink.new small.old small.new result }
     ensures room { KeepsRoom (M.space marks.old) (M.space marks.new) }
     ensures ends { IfOk result (λ count. EndsRows M.token payload.old payload.new count) }
@@ -138,7 +142,8 @@ fn read_marked<M: Marks, R: Read, W: Write>(
     small: &mut Area,
     sink: &mut Sink<W>,
 ) -> Result<u64, Stop>
-    requires { AwaitsNbcRows payload.old sink.old small.old (M.space marks.old) }
+    requires rows { AwaitsRows payload.old sink.old small.old }
+    requires fits { longest_bitmap ≤ (M.space marks.old).room }
     ensures leaves { LeavesLent payload.old payload.new sink.old sink.new small.old small.new result }
     ensures room { KeepsRoom (M.space marks.old) (M.space marks.new) }
     ensures ends { IfOk result (λ count. EndsRows M.token payload.old payload.new count) }
@@ -197,7 +202,8 @@ pub fn nbc_row<R: Read, W: Write>(
     small: &mut Area,
     sink: &mut Sink<W>,
 ) -> Result<(), Stop>
-    requires { IsReadyForNbcRow payload.old sink.old small.old bitmap.old }
+    requires ready { IsReadyForRow payload.old sink.old small.old }
+    requires fits { longest_bitmap ≤ bitmap.old.room }
     ensures leaves { LeavesLent payload.old payload.new sink.old sink.new small.old small.new result }
     ensures bitmap { KeepsRoom bitmap.old bitmap.new }
     ensures row { payload.old.stopped ≡ None → sink.old.failed ≡ false →
@@ -238,7 +244,8 @@ pub fn read_nbc_rows<R: Read, W: Write>(
     small: &mut Area,
     sink: &mut Sink<W>,
 ) -> Result<u64, Stop>
-    requires { AwaitsNbcRows payload.old sink.old small.old bitmap.old }
+    requires rows { AwaitsRows payload.old sink.old small.old }
+    requires fits { longest_bitmap ≤ bitmap.old.room }
     ensures leaves { LeavesLent payload.old payload.new sink.old sink.new small.old small.new result }
     ensures bitmap { KeepsRoom bitmap.old bitmap.new }
     ensures ends { IfOk result (λ count. EndsRows NbcRow payload.old payload.new count) }

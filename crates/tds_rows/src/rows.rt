@@ -1,20 +1,23 @@
 // The reading of rows, one or several after one another (MS-TDS, ROW).
-ghost use Rattle.std.specs.Prelude.{◌≡◌, ◌+◌, ◌<◌, ◌≤◌, ℕ, Bool, List, length, None, IfOk, IfSome, IsTrue};
+ghost use Rattle.std.specs.Prelude.{◌≡◌, ◌+◌, ◌-◌, ◌<◌, ◌≤◌, ℕ, Bool, List, length, None, Ok, IfOk, IfSome, IsTrue};
 ghost use Rattle.tds_text.specs.Fields.{conversion_of};
 ghost use Rattle.tds_cells.specs.Cells.{LongShape, long_start};
 ghost use Rattle.tds_cells.specs.Layouts.{shape_of_layout};
-ghost use Rattle.tds_rows.specs.RowReading.{AwaitsBitmap, CellRead, EndsRows, IsAtCell, IsInMarkedRow, IsInRow, IsInSomeRow, LeavesRows, StaysInRow, TokenTaken};
+ghost use Rattle.tds_rows.specs.RowReading.{AwaitsBitmap, CellRead, EndsRows, IsAtCell, IsInRow, LeavesRows, TokenTaken};
 ghost use Rattle.tds_cells.specs.Rows.{RowToken, longest_bitmap, row_start, token_byte};
 ghost use Rattle.tds_columns.specs.Description.{Column};
-ghost use Rattle.tds_packet.specs.Payloads.{buffered};
+ghost use Rattle.tds_packet.specs.Payloads.{buffered, seen};
 ghost use Rattle.tds_packet.specs.Reads.{KeepsRoom};
 ghost use Rattle.tds_rows.specs.RowSteps.{RowPut, RowsRead, SomeRead};
-ghost use Rattle.tds_rows.specs.RunPuts.{RunPut, room_left};
+ghost use Rattle.tds_rows.specs.RunPuts.{PutsRun};
 ghost use Rattle.tds_cells.specs.CellTexts.{IsLeft};
-ghost use Rattle.tds_cells.specs.Runs.{EndsRun};
+ghost use Rattle.tds_cells.specs.Runs.{RunWritten};
+ghost use Rattle.tds_cells.specs.MarkedRuns.{Covers, EndsLeft, nulls_of};
+ghost use Rattle.tds_cells.specs.declared.nulls.Nulls.TheVariants.{Unmarked};
+ghost use Rattle.tds_csv.specs.Sinks.{held};
 ghost use Rattle.tds_rows.specs.CellSteps.{FieldPut};
 ghost use Rattle.tds_rows.specs.RowRuns.{RunRead};
-ghost use Rattle.tds_cells.specs.RowFormats.{Knows};
+ghost use Rattle.tds_cells.specs.RowFormats.{BeginsRow, Knows, KnowsSome};
 ghost use Rattle.tds_values.specs.Kind as kinds;
 
 use crate::cell::gathered::{LONGEST_CELL, gather_scalar, length_size};
@@ -47,7 +50,7 @@ impl<'r, 't, 'p, 's, 'c, R: Read, W: Write> Rows<'r, 't, 'p, 's, 'c, R, W> {
     /// Takes the token byte of one more row if it is next in the packet, and returns whether it is. Reads nothing.
     pub(crate) fn take_token(&mut self, byte: u8) -> bool
         requires { IsInRow self.old }
-        ensures stays { StaysInRow self.old self.new }
+        ensures stays { LeavesRows self.old self.new (Ok result) }
         ensures sink { self.new.sink.now ≡ self.old.sink.now }
         ensures token { (token : RowToken) → token_byte token ≡ byte →
             TokenTaken R.remaining token self.old.payload.now self.new.payload.now result }
@@ -187,14 +190,20 @@ impl<'r, 't, 'p, 's, 'c, R: Read, W: Write> Rows<'r, 't, 'p, 's, 'c, R, W> {
     // block, over the ends of ROWs, puts their text where it waits, and steps over them. Returns how many rows it began. It reads
     // nothing and delivers nothing.
     fn put_within(&mut self, at: &mut Cursor<'c>, nulls: Nulls) -> u64
-        requires in_row { IsInMarkedRow self.old nulls }
+        requires in_row { IsInRow self.old }
+        requires some { 0 < self.old.row_format.now.count }
+        requires covers { Covers nulls self.old.row_format.now.count }
         requires room { length self.old.sink.now.output.now.bytes + CELL_ROOM < 4096 }
-        ensures stays { StaysInRow self.old self.new }
+        ensures stays { LeavesRows self.old self.new (Ok result) }
         ensures few { self.old.payload.now.place + result ≤ self.new.payload.now.place }
-        ensures ends { EndsRun self.old.row_format.now nulls.entry at.new
-            (buffered self.new.payload.now) (room_left self.new.sink.now) }
-        ensures cells { RunPut R.remaining W.contents self.old.row_format.now nulls.entry at.old at.new result
-            self.old.payload.now self.new.payload.now self.old.sink.now self.new.sink.now }
+        ensures ends { EndsLeft self.old.row_format.now (nulls_of nulls.entry) at.new
+            (buffered self.new.payload.now) (4095 - length self.new.sink.now.output.now.bytes) }
+        ensures last { nulls.entry ≡ Unmarked → at.new.column ≡ self.old.row_format.now.count →
+            BeginsRow (buffered self.new.payload.now) → ⊥ }
+        ensures cells { PutsRun (RunWritten self.old.row_format.now nulls.entry at.old at.new result)
+            (seen R.remaining self.old.payload.now) (seen R.remaining self.new.payload.now)
+            self.old.payload.now.place self.new.payload.now.place
+            (held W.contents self.old.sink.now) (held W.contents self.new.sink.now) }
     {
         let waiting = self.sink.waiting() as usize;
         let room = self.sink.room() - 1;
@@ -208,7 +217,9 @@ impl<'r, 't, 'p, 's, 'c, R: Read, W: Write> Rows<'r, 't, 'p, 's, 'c, R, W> {
     // Reads the next cells of the row, as many as are NULL by a bit or whole in the packet, aren't in several chunks and have room
     // in a small text, puts that text over the end of the block, and steps over them. Begins no row.
     fn put_via_scratch(&mut self, at: &mut Cursor<'c>, nulls: Nulls) -> Result<u64, Stop>
-        requires { IsInMarkedRow self.old nulls }
+        requires in_row { IsInRow self.old }
+        requires some { 0 < self.old.row_format.now.count }
+        requires covers { Covers nulls self.old.row_format.now.count }
         ensures { RunRead R.remaining W.contents nulls.entry at.old at.new self.old self.new result }
     {
         let mut text = [0u8; SCRATCH];
@@ -223,7 +234,9 @@ impl<'r, 't, 'p, 's, 'c, R: Read, W: Write> Rows<'r, 't, 'p, 's, 'c, R, W> {
     /// text, and steps over them. Returns how many rows it began.
     #[inline(always)]
     pub(crate) fn put_run(&mut self, at: &mut Cursor<'c>, nulls: Nulls) -> Result<u64, Stop>
-        requires { IsInMarkedRow self.old nulls }
+        requires in_row { IsInRow self.old }
+        requires some { 0 < self.old.row_format.now.count }
+        requires covers { Covers nulls self.old.row_format.now.count }
         ensures { RunRead R.remaining W.contents nulls.entry at.old at.new self.old self.new result }
     {
         if self.sink.room() <= BLOCK_END {
@@ -253,7 +266,8 @@ impl<'r, 't, 'p, 's, 'c, R: Read, W: Write> Rows<'r, 't, 'p, 's, 'c, R, W> {
     /// many rows it read.
     #[inline(always)]
     pub(crate) fn row_by<M: Marks>(&mut self, marks: &mut M) -> Result<u64, Stop>
-        requires some { IsInSomeRow self.old }
+        requires in_row { IsInRow self.old }
+        requires knows { KnowsSome self.old.row_format.now }
         requires awaits { AwaitsBitmap (M.space marks.old) }
         ensures leaves { LeavesRows self.old self.new result }
         ensures room { KeepsRoom (M.space marks.old) (M.space marks.new) }
@@ -285,7 +299,8 @@ impl<'r, 't, 'p, 's, 'c, R: Read, W: Write> Rows<'r, 't, 'p, 's, 'c, R, W> {
     /// how many they are.
     #[inline(always)]
     pub(crate) fn rows<M: Marks>(&mut self, marks: &mut M) -> Result<u64, Stop>
-        requires some { IsInSomeRow self.old }
+        requires in_row { IsInRow self.old }
+        requires knows { KnowsSome self.old.row_format.now }
         requires room { longest_bitmap ≤ (M.space marks.old).room }
         ensures leaves { LeavesRows self.old self.new result }
         ensures room { KeepsRoom (M.space marks.old) (M.space marks.new) }

@@ -1,7 +1,7 @@
 // A run over cells by their formats, whose columns follow one another in a row.
-ghost use Rattle.std.specs.Prelude.{◌≡◌, ◌==◌, ◌&&◌, ◌<◌, ◌≤◌, ◌+◌, ◌-◌, drop, length, take, true, MatchOption};
+ghost use Rattle.std.specs.Prelude.{◌≡◌, ◌==◌, ◌&&◌, ◌<◌, ◌≤◌, ◌+◌, ◌-◌, ◌*◌, drop, length, take, true, MatchOption};
 ghost use Rattle.tds_values.specs.declared.charset.Charset.{Charset};
-ghost use Rattle.tds_cells.specs.FormatRuns.{AreNumbers, FirstLeft, IsLatest, IsRefusedAfter, NumbersWithin, RefusesRow, RunsFormats, RunsRow, WritesFields};
+ghost use Rattle.tds_cells.specs.FormatRuns.{AreNumbers, FirstLeft, IsRefusedAfter, NumbersWithin, RefusesRow, RunsFormats, RunsRow, WritesFields};
 ghost use Rattle.tds_cells.specs.FormatRuns.{run_since};
 ghost use Rattle.tds_cells.specs.Formats.{AreLaidOut};
 ghost use Rattle.tds_cells.specs.Layouts.{IsLaidOut};
@@ -76,7 +76,8 @@ fn write_fields(
 pub(crate) fn latest_row(formats: &[CellFormat], bytes: &[u8], to: &[u8]) -> Option<Span>
     requires { length formats.now ≤ 65535 }
     ensures { MatchOption result (NumbersWithin (length formats.now) (length bytes.now) (length to.now) → ⊥)
-        (λ latest. IsLatest (length formats.now) (length bytes.now) (length to.now) latest) }
+        (λ latest. (latest.used + 5 * length formats.now + 1 ≡ length bytes.now)
+        × (latest.made + 12 * length formats.now + 26 ≡ length to.now)) }
 {
     let (size, room) = (
         INT4_CELL * formats.len(),

@@ -1,8 +1,9 @@
 // The lengths and totals of long values (MS-TDS, Partially Length-prefixed Bytes).
-ghost use Rattle.std.specs.Prelude.{◌≡◌, ◌≤◌, ◌<◌};
-ghost use Rattle.tds_packet.specs.Payloads.{IsGoing, LeavesPayload};
-ghost use Rattle.tds_rows.specs.LongCells.{NumberRead, chunk_length_fault, end_fault, short_fault, short_length, total_fault, total_of};
-ghost use Rattle.tds_rows.specs.LongReading.{IsAtLength, LengthTaken};
+ghost use Rattle.std.specs.Prelude.{◌≡◌, ◌==◌, ◌||◌, ◌%◌, ◌≤◌, ◌<◌, None, Some, MatchResult, if◌then◌else◌, nat_le};
+ghost use Rattle.tds_packet.specs.Payloads.{IsGoing, LeavesPayload, seen};
+ghost use Rattle.tds_rows.specs.LongCells.{CutsBytes, LengthTaken, ReadsNumber, chunk_length_fault, end_fault};
+ghost use Rattle.tds_cells.specs.Cells.{known_total, null_total, unknown_total, unless};
+ghost use Rattle.tds_packet.specs.declared.fault.Fault.TheVariants.{OddText};
 
 use byteorder::{ByteOrder, LittleEndian};
 use std::io::Read;
@@ -15,7 +16,10 @@ fn read_number<R: Read>(payload: &mut Payload<R>, size: usize) -> Result<u64, St
     requires some { 0 < size }
     requires most { size ≤ 8 }
     ensures payload { LeavesPayload payload.old payload.new result }
-    ensures number { NumberRead R.remaining size payload.old payload.new result }
+    ensures number { MatchResult result
+        (λ n. ReadsNumber size (seen R.remaining payload.old) (seen R.remaining payload.new)
+        payload.old.place payload.new.place n)
+        (λ stop. CutsBytes size (seen R.remaining payload.old) (seen R.remaining payload.new) payload.old.place stop) }
 {
     let mut bytes = [0u8; 8];
     payload.fill(&mut bytes[..size])?;
@@ -28,8 +32,10 @@ pub(crate) fn read_short_length<R: Read>(
     column: u16,
     unit: u64,
 ) -> Result<Option<u64>, Stop>
-    requires { IsAtLength payload.old unit }
-    ensures { LengthTaken R.remaining 2 (short_fault column unit) short_length payload.old payload.new result }
+    requires going { IsGoing payload.old }
+    requires some { 0 < unit }
+    ensures { LengthTaken R.remaining 2 (λ n. unless ((n == 0xFFFF) || (n % unit == 0)) (OddText column))
+        (λ n. if n == 0xFFFF then None else Some n) payload.old payload.new result }
 {
     let place = payload.place();
     match read_number(payload, 2)? {
@@ -46,8 +52,10 @@ pub(crate) fn read_total<R: Read>(
     column: u16,
     unit: u64,
 ) -> Result<Option<Option<u64>>, Stop>
-    requires { IsAtLength payload.old unit }
-    ensures { LengthTaken R.remaining 8 (total_fault column unit) total_of payload.old payload.new result }
+    requires going { IsGoing payload.old }
+    requires some { 0 < unit }
+    ensures { LengthTaken R.remaining 8 (λ n. unless (nat_le unknown_total n || (n % unit == 0)) (OddText column))
+        (λ n. if n == null_total then None else Some (known_total n)) payload.old payload.new result }
 {
     let place = payload.place();
     match read_number(payload, 8)? {
@@ -92,7 +100,8 @@ pub(crate) fn read_chunk_length<R: Read>(
     total: Option<u64>,
     sum: u64,
 ) -> Result<u64, Stop>
-    requires { IsAtLength payload.old unit }
+    requires going { IsGoing payload.old }
+    requires some { 0 < unit }
     ensures { LengthTaken R.remaining 4 (λ n. chunk_length_fault column unit total sum n) (λ n. n)
         payload.old payload.new result }
 {

@@ -1,12 +1,13 @@
 // The value of a RETURNVALUE, which is passed over (MS-TDS, RETURNVALUE).
-ghost use Rattle.std.specs.Prelude.{◌<◌, ◌≤◌, IfOk, [], ◌≡◌, ◌++◌, ℕ, List, true, false, length, None, Err, IfSome, IsTrue};
-ghost use Rattle.tds_packet.specs.Payloads.{IsGoing, LeavesPayload};
-ghost use Rattle.tds_rows.specs.PassedCells.{DataPassed, PiecePassed, AnyData, CellPassed, IsGoodValue, IsReadyToPass, IsRefusedValue};
+ghost use Rattle.std.specs.Prelude.{◌<◌, ◌≤◌, IfOk, [], ◌≡◌, ◌++◌, ℕ, List, true, false, is_ok, length, None, Err, IfSome, IsTrue, MatchResult};
+ghost use Rattle.tds_packet.specs.Payloads.{IsGoing, IsSound, LeavesPayload, seen};
+ghost use Rattle.tds_rows.specs.PassedCells.{AnyData, CellPassed, CutsPassing, PassesData};
 ghost use Rattle.tds_text.specs.Conversion.{Conversion};
 ghost use Rattle.tds_cells.specs.Cells.{ChunkLength, Cell, LongShape, SpellsCell, cell_start, return_charset, shape};
 ghost use Rattle.tds_cells.specs.CellTexts.{IsScalarKind};
 ghost use Rattle.tds_rows.specs.CellSteps.{LeavesGathering, longest_cell};
-ghost use Rattle.tds_values.specs.Front.{scalar_size};
+ghost use Rattle.tds_values.specs.Front.{scalar_size, value_bytes, value_length};
+ghost use Rattle.tds_values.specs.Scalar.{read_of};
 ghost use Rattle.tds_rows.specs.Successes.{ReadsOn};
 ghost use Rattle.tds_values.specs.declared.kind.Kind.{Kind};
 ghost use Rattle.tds_values.specs.Kind as kinds;
@@ -28,7 +29,10 @@ fn pass_piece<R: Read>(payload: &mut Payload<R>, most: u64) -> Result<u64, Stop>
     requires some { 0 < most }
     ensures payload { LeavesPayload payload.old payload.new result }
     ensures some { IfOk result (λ n. (0 < n) × (n ≤ most)) }
-    ensures piece { PiecePassed R.remaining payload.old payload.new result }
+    ensures piece { MatchResult result
+        (λ n. PassesData n (seen R.remaining payload.old) (seen R.remaining payload.new)
+        payload.old.place payload.new.place)
+        (λ stop. CutsPassing 1 (seen R.remaining payload.old) (seen R.remaining payload.new) payload.old.place stop) }
 {
     let held = payload.buffered().len() as u64;
     if held == 0 {
@@ -44,7 +48,10 @@ fn pass_piece<R: Read>(payload: &mut Payload<R>, most: u64) -> Result<u64, Stop>
 pub(crate) fn pass_data<R: Read>(payload: &mut Payload<R>, n: u64) -> Result<(), Stop>
     requires going { IsGoing payload.old }
     ensures payload { LeavesPayload payload.old payload.new result }
-    ensures data { DataPassed R.remaining n payload.old payload.new result }
+    ensures data { MatchResult result
+        (λ _. PassesData n (seen R.remaining payload.old) (seen R.remaining payload.new)
+        payload.old.place payload.new.place)
+        (λ stop. CutsPassing n (seen R.remaining payload.old) (seen R.remaining payload.new) payload.old.place stop) }
 {
     let mut left = n;
     while left > 0 {
@@ -76,8 +83,10 @@ fn pass_chunks<R: Read>(payload: &mut Payload<R>, unit: u64, total: Option<u64>)
 fn is_refused(kind: &Kind, cell: &[u8]) -> bool
     requires scalar { IsScalarKind kind.now }
     requires whole { length cell.now ≡ scalar_size kind.now cell.now }
-    ensures refused { result ≡ true → IsRefusedValue kind.now cell.now }
-    ensures good { result ≡ false → IsGoodValue kind.now cell.now }
+    ensures refused { result ≡ true → (0 < value_length kind.now cell.now)
+        × (is_ok (read_of kind.now (value_bytes kind.now cell.now)) ≡ false) }
+    ensures good { result ≡ false → 0 < value_length kind.now cell.now →
+        is_ok (read_of kind.now (value_bytes kind.now cell.now)) ≡ true }
 {
     let start = length_size(kind);
     start < cell.len() && read_scalar(kind, &cell[start..]).is_err()
@@ -137,7 +146,8 @@ pub fn pass_over<R: Read>(
     kind: &Kind,
     small: &mut Area,
 ) -> Result<(), Stop>
-    requires ready { IsReadyToPass payload.old small.old }
+    requires sound { IsSound payload.old }
+    requires room { longest_cell ≤ small.old.room }
     requires valid { IsTrue (kinds.is_valid kind.now) }
     ensures leaves { LeavesGathering payload.old payload.new small.old small.new result }
     ensures cell { payload.old.stopped ≡ None →

@@ -2,10 +2,11 @@
 ghost use Rattle.std.specs.Prelude.{◌≡◌, ◌<◌, ◌≤◌, ◌+◌, ◌^◌, ◌++◌, ℕ, List, IfOk, [], false, None};
 ghost use Rattle.tds_text.specs.Conversion.{BeginsData, Conversion, Suits, closing, conversion_rest};
 ghost use Rattle.tds_text.specs.Quoting.{after_comma, end_after};
-ghost use Rattle.tds_csv.specs.Sinks.{IsWriting, LeavesSink, PutsPiece};
+ghost use Rattle.tds_csv.specs.Sinks.{IsReady, IsWriting, LeavesSink, PutsPiece};
+ghost use Rattle.tds_packet.specs.Payloads.{IsSound, LeavesPayload};
 ghost use Rattle.tds_rows.specs.Blames.{Blames, failures_of};
 ghost use Rattle.tds_rows.specs.LongCells.{DataTaken, EndPut, PieceTaken, good_of, join_stop, opening};
-ghost use Rattle.tds_rows.specs.LongReading.{AwaitsData, AwaitsValue, BlamesDevices, IsJoining, IsOnSameValue, IsReadyForValue, LeavesBoth, LeavesJoining, LeavesValue, ValuePut};
+ghost use Rattle.tds_rows.specs.LongReading.{AwaitsValue, BlamesDevices, IsJoining, IsOnSameValue, LeavesValue, ValuePut};
 ghost use Rattle.tds_cells.specs.Cells.{Cell, ChunkLength, LongShape, ShortLength, SpellsCell, long_start};
 ghost use Rattle.tds_rows.specs.CellSteps.{FieldPut};
 ghost use Rattle.tds_rows.specs.RowSteps.{StopsAgain};
@@ -81,7 +82,8 @@ impl<'r, 'p, 'j, 'w, 's, J: Joiner, R: Read, W: Write> LongValue<'r, 'p, 'j, 'w,
     fn push_piece(&mut self, most: u64) -> Result<u64, Stop>
         requires joining { IsJoining J.begins J.withheld self.old }
         requires some { 0 < most }
-        ensures leaves { LeavesJoining J.begins J.withheld self.old self.new result }
+        ensures leaves { LeavesValue self.old self.new result }
+        ensures begun { J.begins (J.withheld self.new.joiner.now) }
         ensures further { IfOk result (λ n. (0 < n) × (n ≤ most) ×
             (self.new.payload.now.place ≡ self.old.payload.now.place + n)) }
         ensures blames { BlamesDevices self.old self.new result }
@@ -102,7 +104,8 @@ impl<'r, 'p, 'j, 'w, 's, J: Joiner, R: Read, W: Write> LongValue<'r, 'p, 'j, 'w,
     fn push_data(&mut self, n: u64) -> Result<(), Stop>
         requires joining { IsJoining J.begins J.withheld self.old }
         requires some { 0 < n }
-        ensures leaves { LeavesJoining J.begins J.withheld self.old self.new result }
+        ensures leaves { LeavesValue self.old self.new result }
+        ensures begun { J.begins (J.withheld self.new.joiner.now) }
         ensures place { IfOk result (λ _. self.new.payload.now.place ≡ self.old.payload.now.place + n) }
         ensures blames { BlamesDevices self.old self.new result }
         ensures data { (c : Conversion) (content : List ℕ) → Suits J.fit J.begins J.rest J.text J.UNIT J.QUOTED c →
@@ -139,7 +142,7 @@ impl<'r, 'p, 'j, 'w, 's, J: Joiner, R: Read, W: Write> LongValue<'r, 'p, 'j, 'w,
 
     // Reads a short value from its length on, and puts its field, and the end of the line if it is the last.
     fn short(&mut self) -> Result<(), Stop>
-        requires { AwaitsData J.begins J.withheld J.UNIT self.old }
+        requires { AwaitsValue J.begins (J.withheld self.old.joiner.now) J.UNIT self.old.payload.now self.old.sink.now }
         ensures leaves { LeavesValue self.old self.new result }
         ensures blames { BlamesDevices self.old self.new result }
         ensures field { (c : Conversion) → Suits J.fit J.begins J.rest J.text J.UNIT J.QUOTED c →
@@ -160,7 +163,7 @@ impl<'r, 'p, 'j, 'w, 's, J: Joiner, R: Read, W: Write> LongValue<'r, 'p, 'j, 'w,
 
     // Reads the chunks and the terminator after a total, and puts the text of the data and its end.
     fn chunks(&mut self, total: Option<u64>) -> Result<(), Stop>
-        requires { AwaitsData J.begins J.withheld J.UNIT self.old }
+        requires { AwaitsValue J.begins (J.withheld self.old.joiner.now) J.UNIT self.old.payload.now self.old.sink.now }
         ensures leaves { LeavesValue self.old self.new result }
         ensures blames { BlamesDevices self.old self.new result }
         ensures field { (c : Conversion) → Suits J.fit J.begins J.rest J.text J.UNIT J.QUOTED c →
@@ -180,7 +183,7 @@ impl<'r, 'p, 'j, 'w, 's, J: Joiner, R: Read, W: Write> LongValue<'r, 'p, 'j, 'w,
 
     // Reads the value from its length or total on, and puts its field, and the end of the line if it is the last.
     fn read(&mut self, reach: Reach) -> Result<(), Stop>
-        requires { AwaitsData J.begins J.withheld J.UNIT self.old }
+        requires { AwaitsValue J.begins (J.withheld self.old.joiner.now) J.UNIT self.old.payload.now self.old.sink.now }
         ensures leaves { LeavesValue self.old self.new result }
         ensures blames { BlamesDevices self.old self.new result }
         ensures field { (c : Conversion) → Suits J.fit J.begins J.rest J.text J.UNIT J.QUOTED c →
@@ -209,7 +212,8 @@ pub(crate) fn stream_long<J: Joiner, R: Read, W: Write>(
     sink: &mut Sink<W>,
 ) -> Result<(), Stop>
     requires { AwaitsValue J.begins (J.withheld joiner.old) J.UNIT payload.old sink.old }
-    ensures leaves { LeavesBoth payload.old payload.new sink.old sink.new result }
+    ensures payload { LeavesPayload payload.old payload.new result }
+    ensures sink { LeavesSink sink.old sink.new result }
     ensures blames { Blames (failures_of payload.old sink.old) (failures_of payload.new sink.new) result }
     ensures field { (c : Conversion) → Suits J.fit J.begins J.rest J.text J.UNIT J.QUOTED c →
         FieldPut R.remaining W.contents (long_start c reach) column last
@@ -243,8 +247,11 @@ pub fn stream_value<J: Joiner + Drop, R: Read, W: Write>(
     mut joiner: J,
     sink: &mut Sink<W>,
 ) -> Result<(), Stop>
-    requires { IsReadyForValue payload.old sink.old (J.withheld joiner) }
-    ensures leaves { LeavesBoth payload.old payload.new sink.old sink.new result }
+    requires sound { IsSound payload.old }
+    requires ready { IsReady sink.old }
+    requires none { J.withheld joiner ≡ [] }
+    ensures payload { LeavesPayload payload.old payload.new result }
+    ensures sink { LeavesSink sink.old sink.new result }
     ensures blames { payload.old.stopped ≡ None → sink.old.failed ≡ false →
         Blames (failures_of payload.old sink.old) (failures_of payload.new sink.new) result }
     ensures field { payload.old.stopped ≡ None → sink.old.failed ≡ false → (c : Conversion) →

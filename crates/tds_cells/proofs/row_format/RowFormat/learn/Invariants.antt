@@ -8,8 +8,8 @@ invariant-loop-known l = record {
   few : l.known ≤ N.length (N.columns_of l.fn.columns.bytes.now);
   first : N.map (λ f. f.kind) (N.take l.known l.formats) ≡ N.kinds (N.take l.known (N.columns_of l.fn.columns.bytes.now));
   laid : N.AreLaidOut l.fn.charset l.formats;
-  numbers : l.only_numbers ≡ N.true → N.AreInt4 l.formats;
-  counted : l.only_counted ≡ N.true → N.AreCounted l.formats;
+  numbers : l.only_numbers ≡ N.true → N.Each (λ f. N.is_int4 f.kind ≡ N.true) l.formats;
+  counted : l.only_counted ≡ N.true → N.Each (λ f. N.is_counted f.kind ≡ N.true) l.formats;
   numbers_are : l.only_numbers ≡ N.list_all (λ c. N.is_int4 c.kind) (N.take l.known (N.columns_of l.fn.columns.bytes.now));
   counted_are : l.only_counted ≡ N.list_all (λ c. N.is_counted c.kind) (N.take l.known (N.columns_of l.fn.columns.bytes.now));
   rest : N.columns_left l.rest ≡ N.drop l.known (N.columns_of l.fn.columns.bytes.now);

@@ -6,4 +6,4 @@ returns-in-Unmarked-clause-ends c =
     rw c.in-Unmarked.is (rw c.count.ensures at run.ends, rw c.count.ensures at run.left)
 
 pub returns-in-Marked-clause-ends : goal.returns-in-Marked-clause-ends
-returns-in-Marked-clause-ends c = rw c.in-Marked.is c.run_nbc.ensures.ends.left
+returns-in-Marked-clause-ends c = rw c.in-Marked.is c.run_nbc.ensures.ends

@@ -20,7 +20,7 @@ loop-formats-preserved g c =
     let fast = c.run_fast-fast in
     let run = c.run_formats-run in
     let some = run.ensures.run.within.some (omega arith) in
-    known_ran (λ walk. rows_more {cells = record { used = run.result.used; made = run.result.made; ahead = place walk (fast.result.column + run.result.cells) }}
+    known_ran (λ walk. rows_more {new = place walk (fast.result.column + run.result.cells)} {u = run.result.used} {m = run.result.made}
     _ _ some (search arith) (search arith)
     (λ columns knows is. formats_between _ _ _ _ (omega arith) (c.in-Some.ensures.ahead walk) _ (N.sym (N.eq-eqb _ _ c.in-Some.ensures.whole)) _ knows is
     _ _ _ run.result refl (grind (arith, place_known)) run.ensures.run.cells)

@@ -30,22 +30,17 @@ loop-to-preserved g c =
       made = search arith;
       most = search arith;
       clear = grind arith;
-      writes = grind (arith, runs_clear, runs_more);
+      writes = λ columns knows ahead.
+          let x = l.invariant.writes columns knows ahead in
+          let clear = runs_clear (λ k least most. end.ensures.clear k least (omega (arith, within))) (ran.ensures.cells columns knows x.ahead) in
+          runs_more _ _ _ _ _ _ _ _ _ l.invariant.made some x clear;
     }
 
 pub returns-after-loop-to-clause-ends : goal.returns-after-loop-to-clause-ends
-returns-after-loop-to-clause-ends g c = record {
-  used = c.loop-to.invariant.used;
-  made = omega arith;
-  left = grind arith;
-}
+returns-after-loop-to-clause-ends g c = grind arith
 
 pub returns-else-at-count-clause-ends : goal.returns-else-at-count-clause-ends
-returns-else-at-count-clause-ends g c = record {
-  used = c.loop-to.invariant.used;
-  made = omega arith;
-  left = grind (arith, N.RowFormatSteps.none_next);
-}
+returns-else-at-count-clause-ends g c = grind (arith, N.RowFormatSteps.none_next)
 
 pub returns-then-cells-eq0-clause-ends : goal.returns-then-cells-eq0-clause-ends
 returns-then-cells-eq0-clause-ends g c =
@@ -56,8 +51,4 @@ returns-then-cells-eq0-clause-ends g c =
     let end = c.clear_end-end.ensures in
     let before : l.at.column < c.clear_end-end.result = omega arith in
     let run = rw room at (rw (N.all_after _ l.used) at (ran.ends c.if-cells-eq0.true before)) in
-    record {
-      used = l.invariant.used;
-      made = omega arith;
-      left = rw (ran.within.stays c.if-cells-eq0.true) (ends_clear _ (N.bit _) _ _ _ (end.clear _ (omega arith) before) run);
-    }
+    rw (ran.within.stays c.if-cells-eq0.true) (ends_clear _ (N.bit _) _ _ _ (end.clear _ (omega arith) before) run)

@@ -7,7 +7,7 @@ invariant-loop-to g l = record {
   used : l.used ≤ N.length l.fn.bytes;
   made : l.made ≤ N.length l.to;
   most : l.end ≤ l.fn.self.count;
-  clear : N.AreClear (N.bit l.fn.bitmap) l.at.column l.end;
+  clear : N.BitsAre N.false (N.bit l.fn.bitmap) l.at.column l.end;
   writes : (columns : N.List N.Column) → N.Knows l.fn.self columns → N.IsCursor l.fn.self columns l.fn.at
       → N.RunsMarked l.fn.self columns (N.bit l.fn.bitmap) l.fn.at l.at (N.take l.used l.fn.bytes) (N.take l.made l.to);
 }

@@ -5,12 +5,11 @@ use N.row_format.RowFormat.run_unchecked.Goals.{then-cells-formats-via-then-cell
 use N.row_format.RowFormat.run_unchecked.Goals.{then-cells-formats-via-else-cells-formats+else-bytes-lt-LOOKAHEAD+then-to-lt-CELL_ROOM}
 use N.row_format.RowFormat.run_unchecked.Goals.{then-loop-rest-test+else-made-most, else-loop-rest-test}
 use N.row_format.RowFormat.run_unchecked.Goals.{then-loop-rest-test+then-made-most+in_default as cell_left}
-use N.FarRuns.{begins_in, begins_some, comma_made, comma_most, comma_one, far_left, rest_more, row_length}
+use N.FarRuns.{begins_in, begins_some, comma_made, comma_size, comma_most, comma_one, far_left, rest_more, row_length}
 use N.FormatSteps.{left_after}
 use N.RowFormatRuns.{known_ran, ran_at, first_left, place_known, rest_ahead, row_begun, rows_begin, rows_kept}
 use N.RunSteps.{unused}
 use Rattle.std.proofs.lemmas.List.{take-set-le}
-use Rattle.tds_cells.specs.Runs.{comma_size}
 
 pub returns-then-cells-formats-clause-rows : goal.returns-then-cells-formats-clause-rows
 returns-then-cells-formats-clause-rows c = known_ran (λ walk. rw c.none.ensures rows_begin)

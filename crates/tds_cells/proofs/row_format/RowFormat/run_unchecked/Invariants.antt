@@ -1,7 +1,7 @@
 use Rattle.tds_cells.proofs as N
 use N.row_format.RowFormat.run_unchecked.Given as goal
 use N.{[], ◌≡◌, ◌++◌, ◌-◌, ◌<◌, ◌≤◌, length}
-use Rattle.tds_cells.specs.Runs.{comma_size}
+use N.FarRuns.{comma_size}
 
 abbrev pub invariant-loop-rest : goal.invariant-loop-rest
 invariant-loop-rest l = record {

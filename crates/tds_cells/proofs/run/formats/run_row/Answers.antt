@@ -47,6 +47,6 @@ returns-then-run-formats-clause-row g c =
     record {
       run = N.run_since c.args.from run.result;
       few = c.if-run-formats.true;
-      fields = λ charset. let x = (run.ensures.fields charset).fields in (x.0, x.1);
+      fields = λ charset. let x = run.ensures.fields charset in (x.fields, x.writes);
       next = grind arith;
     }

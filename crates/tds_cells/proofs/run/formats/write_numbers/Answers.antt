@@ -79,3 +79,8 @@ returns-in_default-clause-fields g c = λ charset.
     let same : length mid ≡ length l.to = grind arith in
     fields_end (drop at l.to) (drop at mid) (grind (arith, length-drop)) (omega (arith, same, length-drop at mid, length-drop at l.to))
     (grind (arith, N.FormatSteps.same_beyond, N.RunSteps.made_same)) (l.invariant.writes charset)
+
+pub returns-after-loop-cells-clause-fields : goal.returns-after-loop-cells-clause-fields
+returns-after-loop-cells-clause-fields g c = λ charset.
+    let to = drop c.args.from.made c.loop-cells.to in
+    fields_end to to (grind (arith, length-drop)) refl refl (c.loop-cells.invariant.writes charset)

@@ -11,7 +11,7 @@ returns-in_err-put g c =
     record {
       leaves = search arith;
       few = search arith;
-      cells = passed _ _ _ _ c.from_residual.ensures.1 (run_put c.args.nulls g.R.Read.remaining c.args.self.now.payload.now c.consume.new.self
+      cells = passed _ _ _ _ c.from_residual.ensures.1 (run_put c.args.nulls _ _ _
           (rw c.buffered-bytes.ensures at run.ensures.cells) c.consume.ensures.gives (c.consume.ensures.between c.requires.in_row.payload.going) at
           c.requires.in_row.sink c.in_err-put.ensures);
     }
@@ -25,6 +25,6 @@ returns g c =
     record {
       leaves = search arith;
       few = omega arith;
-      cells = run_put c.args.nulls g.R.Read.remaining c.args.self.now.payload.now c.consume.new.self (rw c.buffered-bytes.ensures at run.ensures.cells)
+      cells = run_put c.args.nulls _ _ _ (rw c.buffered-bytes.ensures at run.ensures.cells)
           c.consume.ensures.gives (c.consume.ensures.between c.requires.in_row.payload.going) at c.requires.in_row.sink c.in_ok-put.ensures;
     }

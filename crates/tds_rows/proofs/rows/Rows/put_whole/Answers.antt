@@ -2,7 +2,6 @@ use Rattle.tds_rows.proofs.rows.Rows.put_whole.Goals as goal
 use Rattle.tds_rows.proofs.Words as N
 use Rattle.tds_rows.proofs.Words.{◌≡◌, ◌∙◌, ◌+◌, ◌≤◌, ap, sym}
 use Rattle.tds_rows.proofs.RunPuts.{put_whole}
-use Rattle.tds_cells.proofs.RowFormatSteps.{last_one}
 
 pub returns-clause-cell : goal.returns-clause-cell
 returns-clause-cell g c =
@@ -13,9 +12,8 @@ returns-clause-cell g c =
     omega (N.arith, ap (λ p. p.place) c.consume.ensures.rest, N.length-take n (N.buffered old.payload.now)) in
     record {
       leaves = search N.arith;
-      cell = λ last next.
-          let end = last_one _ _ _ _ _ next.knows.counted next.next ∙ sym next.last in
-          let alone = rw (end, c.buffered.ensures) at c.in_ok-cell.ensures.cell in
+      cell =
+          let alone = rw c.buffered.ensures at c.in_ok-cell.ensures.cell in
           put_whole _ _ _ _ _ c.requires.in_row.sink
           (c.consume.ensures.between c.requires.in_row.payload.going) alone.1.whole c.consume.ensures.gives at c.put.ensures;
     }

@@ -12,7 +12,7 @@ returns-clause-rows g c = λ columns knows.
     record {
       bytes = take run.span.used bytes;
       text = take run.span.made c.run_far_rows-run.new.to;
-      writes = c.run_far_rows-run.ensures.rows columns knows;
+      wrote = c.run_far_rows-run.ensures.rows columns knows;
       takes = N.subst taken (ap (take run.span.used) (sym c.buffered-bytes.ensures)) c.consume.ensures.gives;
       puts = kept_text _ _ _ _ _ c.run_far_rows-run.auto.to c.waiting-waiting.ensures run.span.made c.commit.ensures.gives;
       place_is = omega (arith, ap (λ p. p.place) c.consume.ensures.rest, length-take-le run.span.used bytes c.run_far_rows-run.ensures.used);
@@ -22,7 +22,7 @@ pub returns-then-TOKEN-clause-rows : goal.returns-then-TOKEN-clause-rows
 returns-then-TOKEN-clause-rows g c = λ columns knows. record {
   bytes = [];
   text = [];
-  writes = (refl, refl);
+  wrote = (refl, refl);
   takes = N.Takes-none (N.seen g.R.Read.remaining c.args.self.now.payload.now) 0;
   puts = N.Puts-none (N.held g.W.Write.contents c.args.self.now.sink.now) c.requires.in_row.sink.ready.2;
   place_is = sym (N.add-zero _);

@@ -3,7 +3,6 @@ use Rattle.tds_rows.proofs.Words as N
 use Rattle.tds_rows.proofs.Words.{◌≡◌, ◌∙◌, ◌+◌, ◌-◌, ◌≤◌}
 use Rattle.tds_rows.proofs.BufferedCells.{kept_text}
 use Rattle.tds_rows.proofs.NextSteps.{all_waits}
-use Rattle.tds_rows.proofs.RunPuts.{run_puts}
 
 pub returns-clause-cells : goal.returns-clause-cells
 returns-clause-cells g c =
@@ -12,8 +11,14 @@ returns-clause-cells g c =
     let at : c.consume.new.self.place ≡ c.args.self.now.payload.now.place + N.length (N.take run.used bytes) =
     omega (N.arith, N.ap (λ p. p.place) c.consume.ensures.rest, N.length-take-le run.used bytes (search N.arith)) in
     let puts = kept_text _ _ _ _ _ c.run-run.auto.to c.waiting-waiting.ensures _ c.commit.ensures.gives in
-    run_puts g.R.Read.remaining g.W.Write.contents c.args.self.now.payload.now c.consume.new.self c.args.self.now.sink.now c.commit.new.self c.args.nulls
-    (rw c.buffered-bytes.ensures at c.run-run.ensures.cells) c.consume.ensures.gives puts at
+    record {
+      bytes = N.take run.used bytes;
+      text = N.take run.made c.run-run.new.to;
+      wrote = (rw c.buffered-bytes.ensures at c.run-run.ensures.cells).writes;
+      takes = c.consume.ensures.gives;
+      puts = puts;
+      place_is = at;
+    }
 
 pub returns-clause-ends : goal.returns-clause-ends
 returns-clause-ends g c =
@@ -25,7 +30,7 @@ returns-clause-ends g c =
     let lent = c.spare-spare.result.now in
     let puts = kept_text h j lent written _ c.run-run.auto.to c.waiting-waiting.ensures run.made c.commit.ensures.gives in
     let block : N.length lent + N.length h.waiting ≡ 4095 =
-    omega (N.arith, c.requires.in_row.in_row.sink.ready.1 c.requires.in_row.in_row.sink.writing) in
+    omega (N.arith, c.requires.in_row.sink.ready.1 c.requires.in_row.sink.writing) in
     let text : N.length (N.take run.made written) ≡ run.made = omega (N.arith, N.length-take run.made written) in
     let waits = all_waits h j _ puts (omega (N.arith, text)) in
     let room : N.length lent - run.made ≡ 4095 - N.length j.waiting = omega (N.arith, text, waits) in

@@ -19,7 +19,7 @@ returns-in_err-put_cell-clause-row g c =
     rw (← l.invariant.stays.same.3) (λ columns knows.
     let reads = l.invariant.reads columns knows in
     let taken = c.in-Some.ensures.taken columns knows reads.0 in
-    passed _ _ _ _ c.from_residual.ensures.1 (cell_stops (rw taken.next at reads.1) (cell_read _ c.in_err-put_cell.ensures knows reads.0 taken)))
+    passed _ _ _ _ c.from_residual.ensures.1 (cell_stops (rw taken.next at reads.1) (cell_read _ c.in_err-put_cell.ensures knows taken)))
 
 pub loop-format-preserved : goal.loop-format-preserved
 loop-format-preserved g c =
@@ -30,7 +30,7 @@ loop-format-preserved g c =
       reads = rw done.leaves.same.3 (λ columns knows.
           let reads = l.invariant.reads columns knows in
           let taken = c.in-Some.ensures.taken columns knows reads.0 in
-          let y = cell_read _ done knows reads.0 taken in
+          let y = cell_read _ done knows taken in
           (taken.ahead, rw (sym taken.further) at (cell_reads (none_ahead _ _) (rw taken.next at reads.1) y)));
     }
 

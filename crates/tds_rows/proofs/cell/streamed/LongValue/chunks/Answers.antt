@@ -7,16 +7,16 @@ use Rattle.tds_rows.proofs.Paths.{path_stops}
 
 pub loop-n-init : goal.loop-n-init
 loop-n-init g c = record {
-  going = c.requires.joining.payload;
-  writing = c.requires.joining.sink;
+  going = c.requires.payload;
+  writing = c.requires.sink;
   value = search rules;
   same = search rules;
   same_sink = search rules;
-  begun = c.requires.joining.begun;
+  begun = c.requires.begun;
   few = omega arith;
   calm = refl;
   streamed = λ conversion suits.
-      streamed_none (c.requires.withheld_none ∙ sym (rest_none _)) c.requires.joining.sink.ready.2;
+      streamed_none (c.requires.withheld_none ∙ sym (rest_none _)) c.requires.sink.ready.2;
 }
 
 pub returns-in_err-n-clause-field : goal.returns-in_err-n-clause-field
@@ -62,7 +62,7 @@ loop-n-preserved g c =
       value = search rules;
       same = search rules;
       same_sink = search rules;
-      begun = done.leaves.begun;
+      begun = done.begun;
       calm = done.blames ∙ same_failures c.in_ok-n.ensures.length.1.takes.4.0 refl ∙ l.invariant.calm;
       few = omega (arith, (c.in_ok-n.ensures.length).1.place_is);
       streamed = λ conversion suits.

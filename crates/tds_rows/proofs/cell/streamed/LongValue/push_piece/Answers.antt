@@ -9,7 +9,8 @@ returns-in_err-piece-clause-piece g c = λ conversion content suits is begun.
     let there = N.stops_here g.R.Read.remaining c.args.self.now.payload.now (N.seen g.R.Read.remaining c.piece.follows.lender-at-none) _
     c.requires.joining.payload.going k.0 in
     N.passed _ _ _ _ c.from_residual.ensures.1 (N.inl (
-      record { own = c.in_err-piece.field-0.0; ends = k.0; stop_is = there; same = N.refl },
+      record { part = N.[]; own = c.in_err-piece.field-0.0; fewer = omega N.arith; ends = k.0; stop_is = there },
+      N.refl,
       c.requires.joining.sink.writing,
     ))
 

@@ -6,18 +6,18 @@ use Rattle.tds_rows.proofs.Paths.{path_stops}
 
 pub returns-in_err-total-in-Chunked-clause-field : goal.returns-in_err-total-in-Chunked-clause-field
 returns-in_err-total-in-Chunked-clause-field g c = λ conversion suits. rw c.in-Chunked.is (
-    passed _ _ _ _ c.from_residual.ensures.1 (reading_stops _ c.requires.joining.sink.ready.2 c.requires.joining.sink.writing
+    passed _ _ _ _ c.from_residual.ensures.1 (reading_stops _ c.requires.sink.ready.2 c.requires.sink.writing
     (total_stops _ (c.UNIT.ensures ∙ suits.unit_is) c.in_err-total-in-Chunked.ensures.length)))
 
 pub returns-in-None-clause-field : goal.returns-in-None-clause-field
 returns-in-None-clause-field g c = λ conversion suits. rw c.in-Chunked.is (
     null_puts _
-    (total_none conversion (c.UNIT.ensures ∙ suits.unit_is) c.in_ok-total-in-Chunked.ensures.length c.in-None.is) refl c.requires.joining.sink
+    (total_none conversion (c.UNIT.ensures ∙ suits.unit_is) c.in_ok-total-in-Chunked.ensures.length c.in-None.is) refl c.requires.sink
     c.put_null.ensures)
 
 pub returns-in_err-put_opening-in-Some-clause-field : goal.returns-in_err-put_opening-in-Some-clause-field
 returns-in_err-put_opening-in-Some-clause-field g c = λ conversion suits. rw c.in-Chunked.is (
-    let sink = c.requires.joining.sink in
+    let sink = c.requires.sink in
     let x = total_start conversion (c.UNIT.ensures ∙ suits.unit_is) c.in_ok-total-in-Chunked.ensures.length c.in-Some.is in
     let breaks = rw (c.QUOTED.ensures ∙ suits.quoted_is) at (c.in_err-put_opening-in-Some.ensures.gives sink.writing) in
     passed _ _ _ _ c.from_residual-in_err-put_opening-in-Some.ensures.1
@@ -35,7 +35,7 @@ returns-in_ok-put_opening-in-Some-clause-field g c = λ conversion suits. rw c.i
 pub returns-in_err-total-in-Chunked-clause-blames : goal.returns-in_err-total-in-Chunked-clause-blames
 returns-in_err-total-in-Chunked-clause-blames g c =
     passed _ _ _ _ c.from_residual.ensures.1 (read_stops _ _ c.in_err-total-in-Chunked.field-0.0
-    (length_blames g.R.Read.remaining c.args.self.now.payload.now c.requires.joining.payload.going
+    (length_blames g.R.Read.remaining c.args.self.now.payload.now c.requires.payload.going
     (total_blames _ _) c.in_err-total-in-Chunked.ensures.length))
 
 pub returns-in-Short-clause-field : goal.returns-in-Short-clause-field

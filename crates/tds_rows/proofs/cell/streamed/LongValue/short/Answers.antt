@@ -7,18 +7,18 @@ use Rattle.tds_rows.proofs.Paths.{path_stops}
 
 pub returns-in_err-n-clause-field : goal.returns-in_err-n-clause-field
 returns-in_err-n-clause-field g c = λ conversion suits.
-    passed _ _ _ _ c.from_residual.ensures.1 (reading_stops _ c.requires.joining.sink.ready.2 c.requires.joining.sink.writing
+    passed _ _ _ _ c.from_residual.ensures.1 (reading_stops _ c.requires.sink.ready.2 c.requires.sink.writing
     (short_stops _ (c.UNIT.ensures ∙ suits.unit_is) c.in_err-n.ensures.length))
 
 pub returns-in_default-clause-field : goal.returns-in_default-clause-field
 returns-in_default-clause-field g c = λ conversion suits.
     null_puts _
-    (short_none conversion (c.UNIT.ensures ∙ suits.unit_is) c.in_ok-n.ensures.length c.in_default.is) refl c.requires.joining.sink
+    (short_none conversion (c.UNIT.ensures ∙ suits.unit_is) c.in_ok-n.ensures.length c.in_default.is) refl c.requires.sink
     c.put_null.ensures
 
 pub returns-in_err-put_opening-clause-field : goal.returns-in_err-put_opening-clause-field
 returns-in_err-put_opening-clause-field g c = λ conversion suits.
-    let sink = c.requires.joining.sink in
+    let sink = c.requires.sink in
     let x = short_start _ (c.UNIT.ensures ∙ suits.unit_is) c.in_ok-n.ensures.length c.in-Some.is in
     let breaks = rw (c.QUOTED.ensures ∙ suits.quoted_is) at (c.in_err-put_opening.ensures.gives sink.writing) in
     let rest = short_text _ _ conversion c.in-Some.n in
@@ -27,7 +27,7 @@ returns-in_err-put_opening-clause-field g c = λ conversion suits.
 
 pub returns-then-n-eq0-clause-field : goal.returns-then-n-eq0-clause-field
 returns-then-n-eq0-clause-field g c = λ conversion suits.
-    let sink = c.requires.joining.sink in
+    let sink = c.requires.sink in
     let x = short_start _ (c.UNIT.ensures ∙ suits.unit_is) c.in_ok-n.ensures.length c.in-Some.is in
     let opened = rw (c.QUOTED.ensures ∙ suits.quoted_is) at c.in_ok-put_opening.ensures.gives in
     let ended = rw suits.quoted_is at (c.put_end.ensures.end conversion [] suits (c.requires.withheld_none ∙ sym (rest_none _)) (none_begins _)) in
