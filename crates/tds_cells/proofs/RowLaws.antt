@@ -45,19 +45,22 @@ module _ (charset : N.Charset) where
   stays [] at h = N.sym h
   stays (e ∷ es) at h = grind arith
 
-  -- No NBCROW begins with an element that is refused.
-  pub refused_nbc_row : (columns : List Column) (front rest more : List ℕ) (at : N.RowPart) (fault : N.Fault) (cells : List Cell) →
-      Spelt (row charset) (Bitmap columns) front at → N.IsRefused (row charset) at rest fault
-      → N.SpellsNbcRow charset columns cells ((front ++ N.take (N.row_size at) rest) ++ more) → ⊥
-  refused_nbc_row [] front rest more at fault cells h r k = grind (arith, stays)
-  refused_nbc_row (c ∷ cs) front rest more at fault cells h r k =
+  -- No row begins with an element that is refused.
+  pub refused_row : (token : N.RowToken) (columns : List Column) (front rest more : List ℕ) (at : N.RowPart) (fault : N.Fault) (cells : List Cell) →
+      Spelt (row charset) (N.token_start token charset columns) front at → N.IsRefused (row charset) at rest fault
+      → N.SpellsRowAs token charset columns cells ((front ++ N.take (N.row_size at) rest) ++ more) → ⊥
+  refused_row N.PlainRow columns front rest more at fault cells h r k =
+      N.refused_for_good _ _ front at rest fault more _ h r (row_is_read columns cells _ k)
+  refused_row N.NbcRow [] front rest more at fault cells h r k = grind (arith, stays)
+  refused_row N.NbcRow (c ∷ cs) front rest more at fault cells h r k =
       N.refused_for_good _ _ front at rest fault more _ h r
       (nbc_row_is_read _ cells _ (omega arith) k)
 
-  -- No bytes spell two NBCROWs of the same columns.
-  pub one_nbc_row : (columns : List Column) (a b : List Cell) (bytes : List ℕ) → N.SpellsNbcRow charset columns a bytes
-      → N.SpellsNbcRow charset columns b bytes → a ≡ b
-  one_nbc_row [] a b bytes h k = grind arith
-  one_nbc_row (c ∷ cs) a b _ h k =
+  -- No bytes spell two rows of the same columns.
+  pub one_row : (token : N.RowToken) (columns : List Column) (a b : List Cell) (bytes : List ℕ) → N.SpellsRowAs token charset columns a bytes
+      → N.SpellsRowAs token charset columns b bytes → a ≡ b
+  one_row N.PlainRow columns a b _ h k = let e = N.one_state _ _ _ _ _ (row_is_read columns a _ h) (row_is_read columns b _ k) in cc
+  one_row N.NbcRow [] a b bytes h k = grind arith
+  one_row N.NbcRow (c ∷ cs) a b _ h k =
       let some = some_bitmap (c ∷ cs) (omega arith) in
       let e = N.one_state _ _ _ _ _ (nbc_row_is_read _ _ _ some h) (nbc_row_is_read _ _ _ some k) in cc

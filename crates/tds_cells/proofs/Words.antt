@@ -47,7 +47,7 @@ pub use Rattle.tds_cells.specs.MarkedRuns.{WritesColumn, EndsFar, EndsLeft, Cell
 pub use Rattle.tds_cells.specs.MarkedRuns.{RunsMarked, WritesNext}
 pub use Rattle.tds_cells.specs.MarkedRows.{EndsNbcRows, WritesNbcRows, WritesWholeRows}
 pub use Rattle.tds_cells.specs.Rows.{marked, WholeRow, bitmap_length, row_add, SpellsMarked, bit, RowToken, Bitmap, PlainRow, with_cell, RowPart, SpellsNbcRow}
-pub use Rattle.tds_cells.specs.Rows.{SpellsRow, row, NbcRow, row_so_far, with_field, row_size, InCell, token_byte, row_start, token_start}
+pub use Rattle.tds_cells.specs.Rows.{SpellsRow, SpellsRowAs, row, NbcRow, row_so_far, with_field, row_size, InCell, token_byte, row_start, token_start}
 pub use Rattle.tds_cells.specs.Rows.{next_cell, nbc_row_start}
 pub use Rattle.tds_cells.specs.Runs.{KnownRan, rows_so_far, lines, rows, Writes, after_cells, RowsPart}
 pub use Rattle.tds_cells.specs.Runs.{WritesRows}

@@ -1,10 +1,10 @@
 -- What reading a cell and putting it into its line does.
 use Rattle.std.specs.Prelude.{◌≡◌, ◌==◌, ◌⊎◌, ◌+◌, ◌-◌, ◌<◌, ◌≤◌, ℕ, Bool, true, false, List, [], ◌∷◌, length, take, is_ok, Option}
-use Rattle.std.specs.Prelude.{Some, None, IsTrue, MatchOption, if◌then◌else◌}
+use Rattle.std.specs.Prelude.{Some, None, MatchOption, if◌then◌else◌}
 use Rattle.tds_values.specs.declared.kind.Kind.{Kind}
 use Rattle.tds_values.specs.declared.kind.Kind.TheVariants.{Int4, IntN}
 use Rattle.tds_values.specs.Front.{scalar_size, value_bytes, value_length, value_start}
-use Rattle.tds_values.specs.Kind.{is_scalar, is_valid}
+use Rattle.tds_values.specs.Kind.{is_scalar}
 use Rattle.tds_values.specs.Scalar.{read_of}
 use Rattle.tds_columns.specs.Description.{Column}
 use Rattle.tds_text.specs.Quoting.{after_comma, in_line}
@@ -29,11 +29,6 @@ is_last_column (c ∷ cs) = false
 abbrev pub cell_so_far : ℕ → Bool → CellPart → List ℕ
 cell_so_far column last (WholeCell cell) = in_line column last (field cell)
 cell_so_far column last part = opened column (field_so_far part)
-
--- The kind is a scalar one, and its numbers are allowed.
-pub record IsScalarKind (kind : Kind) : Type 0 where
-  pub valid : IsTrue (is_valid kind)
-  pub scalar : IsTrue (is_scalar kind)
 
 -- whether the values of a kind are whole numbers of four bytes
 abbrev pub is_int4 : Kind → Bool

@@ -1,5 +1,5 @@
 -- The fields of long values whose bytes lie together (MS-TDS, Data Stream Types).
-use Rattle.std.specs.Prelude.{◌==◌, ◌-◌, ℕ, Bool, List, length, take, Option, Some, None, MatchOption, if◌then◌else◌}
+use Rattle.std.specs.Prelude.{◌-◌, ℕ, Bool, List, length, take, Option, MatchOption}
 use Rattle.tds_values.specs.declared.kind.Kind.{Kind}
 use Rattle.tds_values.specs.declared.kind.Kind.TheVariants.{Binary, Narrow, Wide}
 use Rattle.tds_values.specs.declared.kind.Reach.{Reach}
@@ -36,7 +36,3 @@ abbrev pub LongWritten : Conversion → Reach → List ℕ → ℕ → List ℕ 
 LongWritten c reach bytes room text result = MatchOption result (IsLongLeft (LongShape c reach) bytes room)
     (λ written. IsCellSpan (long_size reach bytes) (length bytes) (room - 3) written × ((column : ℕ) (last : Bool) →
     WritesWhole (long_start c reach) column last (take written.used bytes) (in_line column last (take written.made text))))
-
--- what was written of a cell, if any of its bytes were used
-abbrev pub some_written : Span → Option Span
-some_written written = if written.used == 0 then None else Some written

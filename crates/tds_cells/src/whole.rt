@@ -1,5 +1,5 @@
 // A cell that is whole in the packet: its bytes are together. A value in chunks has one at most.
-ghost use Rattle.std.specs.Prelude.{◌≡◌, ◌+◌, ◌-◌, ◌<◌, ◌≤◌, ℕ, drop, length, take, is_ok, false, true, IfSome, IsTrue, MatchOption};
+ghost use Rattle.std.specs.Prelude.{◌≡◌, ◌==◌, ◌+◌, ◌-◌, ◌<◌, ◌≤◌, ℕ, drop, length, take, is_ok, false, true, None, Some, IfSome, IsTrue, MatchOption, if◌then◌else◌};
 ghost use Rattle.tds_cells.specs.CellTexts.{CellWritten, HasInt4, WritesField, is_counted, is_int4, whole_size};
 ghost use Rattle.tds_values.specs.Front.{value_bytes};
 ghost use Rattle.tds_values.specs.Scalar.{read_of};
@@ -7,7 +7,7 @@ ghost use Rattle.tds_values.specs.declared.charset.Charset.{Charset};
 ghost use Rattle.tds_cells.specs.Cells.{LongShape, shape};
 ghost use Rattle.tds_cells.specs.ChunkedCells.{HasOneChunk, chunk_end};
 ghost use Rattle.byteorder.specs.Endian.{little_number};
-ghost use Rattle.tds_cells.specs.LongFields.{LongWritten, some_written};
+ghost use Rattle.tds_cells.specs.LongFields.{LongWritten};
 ghost use Rattle.tds_values.specs.declared.kind.Reach.{Reach};
 ghost use Rattle.tds_values.specs.Kind.{is_scalar};
 ghost use Rattle.tds_values.specs.declared.kind.Kind.{Kind};
@@ -147,7 +147,7 @@ fn write_one_chunk(content: Content, bytes: &[u8], to: &mut [u8]) -> Option<Span
 // What was written of a cell, if any of its bytes were used.
 #[inline(always)]
 fn some_written(written: Span) -> Option<Span>
-    ensures { result ≡ some_written written }
+    ensures { result ≡ (if written.used == 0 then None else Some written) }
 {
     if written.used == 0 {
         return None;
@@ -160,7 +160,7 @@ fn some_written(written: Span) -> Option<Span>
 fn write_apart(content: Content, bytes: &[u8], to: &mut [u8]) -> Span
     requires room { VALUE_ROOM ≤ length to.old }
     ensures cell { LongWritten (conversion_of content) Reach.Chunked bytes.now (length to.old + 1)
-        to.new (some_written result) }
+        to.new (if result.used == 0 then None else Some result) }
 {
     match write_one_chunk(content, bytes, to) {
         Some(written) => written,

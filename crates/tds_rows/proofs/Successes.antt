@@ -86,7 +86,7 @@ streaming_succeeds _ _ _ _ _ _ _ (Err stop) more P put spelt none =
 pub value_passes : {R U : Type 0} (remaining : R → Option (List ℕ)) (kind : N.Kind) (old new : Payload R) (result : N.Result U Stop) (value : Cell)
     (bytes more : List ℕ)
     → N.CellPassed remaining (N.cell_start kind (N.shape N.return_charset kind)) old new result → N.SpellsCell kind (N.shape N.return_charset kind) value bytes
-    → N.ReadsOn remaining old new result (bytes ++ more)
+    → Brings (N.seen remaining old) (bytes ++ more) → (Rose old.from.now.failures new.from.now.failures → ⊥) → N.is_ok result ≡ N.true
 value_passes _ _ _ _ (Ok x) _ _ _ _ _ = grind arith
 value_passes _ _ _ _ (Err stop) _ _ _ passed spelt = λ brings reads.
     let read = cell_is_read _ _ _ _ _ (grind arith) spelt in

@@ -87,7 +87,7 @@ pub use Rattle.tds_cells.specs.Rows.{next_cell, nbc_row_start}
 pub use Rattle.tds_cells.specs.Runs.{rows_so_far, rows, Writes, rows_start, after_cells, RowsPart}
 pub use Rattle.tds_rows.specs.RunPuts.{PutsRun, WritesPrefixOfRun}
 pub use Rattle.tds_cells.specs.Runs.{WritesRows}
-pub use Rattle.tds_rows.specs.Successes.{SpellsRows, ReadsOn, SucceedsOn, Brings}
+pub use Rattle.tds_rows.specs.Successes.{SpellsRows, SucceedsOn, Brings}
 pub use Rattle.tds_cells.specs.Rows.{BeginNoRow}
 pub use Rattle.tds_cells.specs.RowFormats.{TakesColumn, IsCursor, KnowsSome, Knows}
 pub use Rattle.tds_cells.specs.WholeCells.{WritesCell, WritesWhole}

@@ -16,10 +16,6 @@ pub record Brings (seen : PayloadView) (bytes : List ℕ) : Type 0 where
   pub left : seen.left ≡ Some input
   pub comes : (seen.future input).bytes ≡ bytes
 
--- If these bytes are to come and no read fails, the call succeeds.
-abbrev pub ReadsOn : {R U E : Type 0} → (R → Option (List ℕ)) → Payload R → Payload R → Result U E → List ℕ → Type 0
-ReadsOn remaining old new result bytes = Brings (seen remaining old) bytes → ¬ Rose old.from.now.failures new.from.now.failures → is_ok result ≡ true
-
 -- If these bytes are to come and no read and no write fails, the call succeeds.
 abbrev pub SucceedsOn : {R W U E : Type 0} → (R → Option (List ℕ)) → Payload R → Payload R → Sink W → Sink W → Result U E → List ℕ → Type 0
 SucceedsOn remaining old new before after result bytes = Brings (seen remaining old) bytes →

@@ -3,7 +3,6 @@ ghost use Rattle.std.specs.Prelude.{[], ◌≡◌, ◌≤◌, IsTrue, None, Some
 ghost use Rattle.tds_packet.specs.Payloads.{IsGoing};
 ghost use Rattle.tds_cells.specs.Cells.{ScalarBytes, ScalarLength, cell_start, shape};
 ghost use Rattle.tds_rows.specs.CellSteps.{CellGathered, LeavesGathering, longest_cell};
-ghost use Rattle.tds_cells.specs.CellTexts.{IsScalarKind};
 ghost use Rattle.tds_values.specs.Front.{value_start};
 ghost use Rattle.tds_values.specs.declared.charset.Charset as sets;
 ghost use Rattle.tds_values.specs.Kind as kinds;
@@ -64,7 +63,8 @@ fn gather_counted<R: Read>(
     requires going { IsGoing payload.old }
     requires empty { small.old.bytes ≡ [] }
     requires room { longest_cell ≤ small.old.room }
-    requires scalar { IsScalarKind kind.now }
+    requires valid { IsTrue (kinds.is_valid kind.now) }
+    requires scalar { IsTrue (kinds.is_scalar kind.now) }
     requires counted { kinds.fixed_length kind.now ≡ None }
     ensures leaves { LeavesGathering payload.old payload.new small.old small.new result }
     ensures cell { CellGathered R.remaining kind.now (ScalarLength kind.now) column
@@ -90,7 +90,8 @@ pub(crate) fn gather_scalar<R: Read>(
     small: &mut Area,
 ) -> Result<(), Stop>
     requires going { IsGoing payload.old }
-    requires scalar { IsScalarKind kind.now }
+    requires valid { IsTrue (kinds.is_valid kind.now) }
+    requires scalar { IsTrue (kinds.is_scalar kind.now) }
     requires room { longest_cell ≤ small.old.room }
     ensures leaves { LeavesGathering payload.old payload.new small.old small.new result }
     ensures cell { (charset : sets.Charset) →

@@ -4,11 +4,11 @@ ghost use Rattle.tds_packet.specs.Payloads.{IsGoing, IsSound, LeavesPayload, see
 ghost use Rattle.tds_rows.specs.PassedCells.{AnyData, CellPassed, CutsPassing, PassesData};
 ghost use Rattle.tds_text.specs.Conversion.{Conversion};
 ghost use Rattle.tds_cells.specs.Cells.{ChunkLength, Cell, LongShape, SpellsCell, cell_start, return_charset, shape};
-ghost use Rattle.tds_cells.specs.CellTexts.{IsScalarKind};
 ghost use Rattle.tds_rows.specs.CellSteps.{LeavesGathering, longest_cell};
 ghost use Rattle.tds_values.specs.Front.{scalar_size, value_bytes, value_length};
 ghost use Rattle.tds_values.specs.Scalar.{read_of};
-ghost use Rattle.tds_rows.specs.Successes.{ReadsOn};
+ghost use Rattle.tds_rows.specs.Successes.{Brings};
+ghost use Rattle.tds_meter.specs.Counts.{Rose};
 ghost use Rattle.tds_values.specs.declared.kind.Kind.{Kind};
 ghost use Rattle.tds_values.specs.Kind as kinds;
 
@@ -81,7 +81,8 @@ fn pass_chunks<R: Read>(payload: &mut Payload<R>, unit: u64, total: Option<u64>)
 
 // Whether the value of a scalar cell is out of range; NULL isn't.
 fn is_refused(kind: &Kind, cell: &[u8]) -> bool
-    requires scalar { IsScalarKind kind.now }
+    requires valid { IsTrue (kinds.is_valid kind.now) }
+    requires scalar { IsTrue (kinds.is_scalar kind.now) }
     requires whole { length cell.now ≡ scalar_size kind.now cell.now }
     ensures refused { result ≡ true → (0 < value_length kind.now cell.now)
         × (is_ok (read_of kind.now (value_bytes kind.now cell.now)) ≡ false) }
@@ -95,7 +96,8 @@ fn is_refused(kind: &Kind, cell: &[u8]) -> bool
 // Passes over a value of a scalar kind, which is judged in the small area.
 fn pass_scalar<R: Read>(payload: &mut Payload<R>, kind: &Kind, small: &mut Area) -> Result<(), Stop>
     requires going { IsGoing payload.old }
-    requires scalar { IsScalarKind kind.now }
+    requires valid { IsTrue (kinds.is_valid kind.now) }
+    requires scalar { IsTrue (kinds.is_scalar kind.now) }
     requires room { longest_cell ≤ small.old.room }
     ensures leaves { LeavesGathering payload.old payload.new small.old small.new result }
     ensures cell { CellPassed R.remaining (cell_start kind.now (shape return_charset kind.now))
@@ -155,7 +157,8 @@ pub fn pass_over<R: Read>(
         payload.old payload.new result }
     ensures succeeds { payload.old.stopped ≡ None → (value : Cell) (bytes more : List ℕ) →
         SpellsCell kind.now (shape return_charset kind.now) value bytes →
-        ReadsOn R.remaining payload.old payload.new result (bytes ++ more) }
+        Brings (seen R.remaining payload.old) (bytes ++ more) →
+        ¬ Rose payload.old.from.now.failures payload.new.from.now.failures → is_ok result ≡ true }
     ensures again { IfSome payload.old.stopped (λ stop. (result ≡ Err stop) × (payload.new ≡ payload.old)) }
 {
     if let Some(stop) = payload.stopped() {

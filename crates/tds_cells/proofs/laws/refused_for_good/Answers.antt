@@ -6,8 +6,5 @@ returns-clause-cell c = λ charset kind column front rest more at fault value h 
     N.refused_for_good _ _ _ _ _ fault _ _ h r (N.CellLaws.cell_is_read _ _ _ _ _ (N.RowLaws.shape-HasBytes _ _) k)
 
 pub returns-clause-row : goal.returns-clause-row
-returns-clause-row c = λ charset columns front rest more at fault cells h r k.
-    N.refused_for_good _ _ _ _ _ fault _ _ h r (N.RowLaws.row_is_read _ _ _ _ k)
-
-pub returns-clause-nbc_row : goal.returns-clause-nbc_row
-returns-clause-nbc_row c = λ charset columns front rest more at fault cells h r k. N.RowLaws.refused_nbc_row _ _ _ _ _ _ _ _ h r k
+returns-clause-row c = λ token charset columns front rest more at fault cells h r k.
+    N.RowLaws.refused_row charset token columns front rest more at fault cells h r k
