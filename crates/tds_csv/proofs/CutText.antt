@@ -10,8 +10,8 @@ part_is_no_text : (c n : ℕ) → 0 < n → n < length (encode_utf8 c) → IsUtf
 part_is_no_text c n some short ([], u) = omega (arith, ap length u.1, N.length-take-le n (encode_utf8 c) (omega arith))
 part_is_no_text c n some short (d ∷ cs, u) =
     let whole : encode_utf8 c ++ [] ≡ encode_utf8 d ++ (N.encode_utf8_all cs ++ drop n (encode_utf8 c)) =
-    grind (arith, N.append-nil, N.take-append-drop, N.append_assoc, N.encode_utf8_all) in
-    grind (arith, N.encode_utf8_all, N.append-nil, N.take-append-drop, N.append_assoc, N.encode_same, N.length-append, N.length-drop)
+    grind (arith, N.append-nil, N.take-append-drop, N.append_assoc) in
+    grind (arith, N.append-nil, N.take-append-drop, N.append_assoc, N.encode_same, N.length-append, N.length-drop)
 
 part_has_none : (c k : ℕ) → k < length (encode_utf8 c) → utf8_valid_len (take k (encode_utf8 c)) ≡ 0
 part_has_none c k short =

@@ -10,10 +10,10 @@ pub counted-twice : (n k l : ℕ) → N.counted (N.counted n k) l ≡ N.counted 
 counted-twice = omega arith
 
 pub Adds-trans : (a b c : SinkView) (d f p q : List ℕ) → Adds a b d p → Adds b c f q → Adds a c (d ++ f) (p ++ q)
-Adds-trans = grind (arith, N.append_assoc, N.length-append, N.Appends-trans)
+Adds-trans = grind (arith, N.append_assoc, N.length-append)
 
 pub Puts-none : (a : SinkView) → a.delivered ≤ 2 ^ 64 - 1 → Puts a a []
-Puts-none a h = ([], 0, grind (arith, N.Appends-nil, N.append-nil, counted-none), N.refl, Stays-none a.failures)
+Puts-none a h = ([], 0, grind (arith, N.append-nil), N.refl, Stays-none a.failures)
 
 pub Puts-trans : (a b c : SinkView) (p q : List ℕ) → Puts a b p → Puts b c q → Puts a c (p ++ q)
 Puts-trans a b c p q x y = (x.0 ++ y.0, x.1 + y.1, Adds-trans a b c _ _ _ _ x.2 y.2, omega (arith, N.length-append x.0 y.0), Stays-trans _ _ _ x.0 y.0 x.4 y.4)
@@ -40,7 +40,7 @@ WritesPrefix-longer = grind (arith, N.take-append-le, N.length-append)
 pub block : {U : Type 0} (a m b : SinkView) (piece : List ℕ) (r : N.Result U Stop) → m ≡ record a { waiting = a.waiting ++ piece } → length m.waiting ≡ 4096
     → N.OnErr r (0 < length b.waiting)
     → N.MatchResult r (λ _. N.Sends m b) (λ e. N.FinishFails m b e) → N.MatchResult r (λ _. Puts a b piece) (λ e. WritesPrefix a b piece e)
-block = grind (arith, N.append-nil, N.length-append, N.take_all, N.le_refl)
+block = grind (arith, N.append-nil, N.length-append, N.take_all)
 
 pub block_going : {U : Type 0} (a m b : SinkView) (piece : List ℕ) (r : N.Result U Stop) (failed : N.Bool) → m ≡ record a { waiting = a.waiting ++ piece }
     → length m.waiting ≡ 4096 → N.OnErr r (0 < length b.waiting)

@@ -20,7 +20,7 @@ split_at a b p r sent n adds enough below above asked =
     let sizes : length sent ≡ length first + length (drop k sent) = omega (arith, N.length-drop k sent) in (
       record { had = N.append_known a.had first; waiting = drop k all; delivered = N.counted a.delivered (length first); failures = a.failures },
       omega (arith, N.length-drop k all),
-      (first, n, (grind arith, sym (N.take-append-drop k all), refl), size, (refl, λ some. asked (omega (arith, some)))),
+      (first, n, (grind arith, sym (N.take-append-drop k all), refl), size, (refl, λ some. asked (omega arith))),
       (
         (let all_sent : N.Appends a.had b.had (first ++ drop k sent) = N.subst (N.Appends a.had b.had)
             (sym (N.take-append-drop k sent) ∙ ap (λ l. l ++ drop k sent) (rw (← N.take-append-le k sent b.waiting enough, ← joined) (N.take-append-le k
@@ -30,7 +30,7 @@ split_at a b p r sent n adds enough below above asked =
       ),
       refl,
       omega arith,
-      λ some. asked (omega (arith, sizes, some)),
+      λ some. asked (omega arith),
     )
 
 -- a piece that was put in one call could have been put in two

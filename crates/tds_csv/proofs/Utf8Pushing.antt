@@ -22,7 +22,7 @@ up_to_seam {kept} {k} is begun x =
     let j = k - length kept in
     let split : k ≡ length kept + j = omega arith in
     let after : k + 1 ≡ length kept + (j + 1) = omega arith in
-    grind (arith, after_kept, N.take-append-add, N.length-append)
+    grind (arith, N.take-append-add, N.length-append)
 
 -- two parts of a piece, of which the first was taken
 halves : (kept part : List ℕ) {mid : List ℕ} (more : List ℕ) → mid ≡ rest (kept ++ part)
@@ -120,6 +120,6 @@ pub pushes_long : {W U V : Type 0} {contents : W → N.Option (List ℕ)} {a b d
     → PushesPiece contents Begins rest text kept new a d piece (moved_by (3 - length held') r)
 pushes_long {kept} {mid} {piece} {held'} long same le x y =
     let at = 3 - length held' in
-    let whole : at + length mid ≡ length (take 3 piece) = grind (arith, N.length-take-le) in
+    let whole : at + length mid ≡ length (take 3 piece) = grind arith in
     rw N.take-append-drop at (pushes_both (drop 3 piece) at whole x (rw (rw N.take-append-drop at
     (kept_tail kept (take 3 piece) (drop 3 piece) mid at x.gives.withheld whole)) at y))

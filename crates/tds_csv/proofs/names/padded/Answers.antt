@@ -12,8 +12,7 @@ returns c =
     elim c.if-units-le-WORD.branch [
       | then-units-le-WORD w ↦ rw w.words-is (one_word units bytes w.if-units-le-WORD.true w.four_units.ensures)
       | else-units-le-WORD w ↦
-          let more = w.if-units-le-WORD.false in
           let rest : N.take (N.length units - 8) (drop 8 units) ≡ drop 8 units = N.take_all _ _ (omega (N.arith, N.length-drop 8 units)) in
           let high = rw rest at w.four_units-else-units-le-WORD.ensures in
-          rw w.words-is (two_words units bytes (omega (N.arith, more)) c.requires.few w.read_u64.ensures high)
+          rw w.words-is (two_words units bytes (omega N.arith) c.requires.few w.read_u64.ensures high)
     ]

@@ -15,4 +15,4 @@ returns-in_err-at g c =
 pub returns : goal.returns
 returns g c =
     let put = puts_whole c.in_ok-from.ensures.leads c.in_ok-from.ensures.puts c.in_ok-at.ensures.puts in
-    grind (N.arith, N.common_steps, N.take_all, N.length-drop, N.Puttings.pushes_taken)
+    grind (N.arith, N.take_all, N.length-drop)
