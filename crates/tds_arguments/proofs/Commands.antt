@@ -15,7 +15,7 @@ argument_then made next a app rule is arg = N.IfOk-weaker next _ _ (λ new g. wi
 pub with_command : {app below : App} (old sub new : Command) → IsCommand app old → IsCommand below sub → N.AddsSubcommand old sub new
     → IsCommand (N.with_subcommand app below.top) new
 with_command old sub new is under add =
-    (add.shape under.1 ∙ ap₂ N.with_subcommand is.0 (ap (λ (a : App). a.top) under.0), add.globals ∙ ap₂ (λ (x y : N.Bool). x || y) is.1 under.1)
+    (add.shape under.1 ∙ ap₂ N.with_subcommand is.0 (cc), add.globals ∙ ap₂ (λ (x y : N.Bool). x || y) is.1 under.1)
 
 -- the same of texts, which the parser doesn't read
 pub told : {app : App} {fields : Command-F Command} (old new : Command) → out-Command new ≡ fields

@@ -47,7 +47,7 @@ at_fault k faults (N.Refused text) among of = inr (some_fault (λ fault. N.not (
 -- without memory there is no other answer
 no_memory : (k : ErrorKind) (usage : Usage) → k ≡ kind.OutOfMemory → IsUsageOf k usage → usage ≡ N.OutOfMemory
 no_memory k N.OutOfMemory is of = refl
-no_memory k (Help text) is of = absurd (N.true≢false (N.sym of ∙ ap asks_for_help is))
+no_memory k (Help text) is of = absurd (cc)
 no_memory k (N.Refused text) is of = absurd (of.1 is)
 
 module _ (app : N.App) (arguments : List N.Text) (program : N.IsProgram app) where

@@ -4,8 +4,8 @@ use N.{◌≢◌, ◌<◌, ◌^◌, ℕ, List, [], ◌∷◌}
 
 -- a numeral doesn't begin with a plus
 no_plus : (text : List ℕ) → N.IsNumeral 10 text → N.slice_index text 0 ≢ 43
-no_plus [] numeral plus = absurd (omega (N.arith, numeral.0))
-no_plus (c ∷ cs) numeral plus = let bad : N.digit_value 43 < 10 = N.subst (λ (x : ℕ). N.digit_value x < 10) plus numeral.1.0 in absurd (omega (N.arith, bad))
+no_plus [] numeral plus = absurd (omega N.arith)
+no_plus (c ∷ cs) numeral plus = let bad : N.digit_value 43 < 10 = N.subst (λ (x : ℕ). N.digit_value x < 10) plus numeral.1.0 in absurd (omega N.arith)
 
 module _ {E : Type 0} (P Q : List ℕ → N.Result ℕ E → Type 0) where
   -- how an unsigned type of k bits reads a text

@@ -10,18 +10,15 @@ returns-in_default-clause-err g c =
 pub returns-then-starts_with-clause-err : goal.returns-then-starts_with-clause-err
 returns-then-starts_with-clause-err g c =
     let text = c.in-Some.text.now in
-    let byte : N.true ≡ (N.slice_index text 0 == 43) = c.if-starts_with.ensures.byte (omega arith) (omega arith) (λ w o h. h) in
-    let plus : N.slice_index text 0 ≡ 43 = grind (arith, nat_tests) in
+    let plus : N.slice_index text 0 ≡ 43 = grind arith in
     rw (← N.first_value-rows, ← c.in-Some.ensures) (N.inl plus)
 
 pub returns-in-Ok-clause-ok : goal.returns-in-Ok-clause-ok
 returns-in-Ok-clause-ok g c =
     let text = c.in-Some.text.now in
-    let byte : N.false ≡ (N.slice_index text 0 == 43) = c.if-starts_with.ensures.byte (omega arith) (omega arith) (λ w o h. h) in
-    let plus : N.slice_index text 0 ≢ 43 = grind (arith, nat_tests) in
+    let plus : N.slice_index text 0 ≢ 43 = grind arith in
     rw (← N.first_value-rows, ← c.in-Some.ensures) (plus, c.in-Ok.ensures.value)
 
 pub returns-clause-err : goal.returns-clause-err
 returns-clause-err g c =
-    let text = c.in-Some.text.now in
-    rw (← N.first_value-rows, ← c.in-Some.ensures) (N.inr (c.in-Err.field-0, c.in-Err.ensures.value))
+    rw (← N.first_value-rows, ← c.in-Some.ensures) (grind arith)
