@@ -13,15 +13,9 @@ known_kept = grind arith
 told_over : (xs : List ℕ) (a : Option (List ℕ)) → a ≡ Some xs → N.TellsEnd a N.true → xs ≡ []
 told_over = grind arith
 
-told_more : (xs : List ℕ) (a : Option (List ℕ)) → a ≡ Some xs → N.TellsEnd a N.false → xs ≡ [] → ⊥
-told_more = grind arith
-
 -- a count that stayed didn't rise
 stayed : (a b c : ℕ) → b ≡ a → N.IsAnswered a c → N.Rose b c → ⊥
 stayed = grind arith
-
-not_one_more : (a b c : ℕ) → b ≡ a → N.IsAnswered a c → c ≡ N.one_more b → ⊥
-not_one_more = grind arith
 
 -- ---- one response
 
@@ -81,52 +75,43 @@ some_wire size [] rest message none = message
 some_wire size (p ∷ ps) rest message none = cc
 
 module _ {R W M : Type 0} (tell : Telling R W M) (charset : Charset) where
-  -- an accepted response that is read and reported
-  record Stepped (a b : Standing R W M) (report : Report) (sent : Sent) (rest : List ℕ) : Type 0 where
+  -- these responses are to come, and up to the end no read or write of rows fails
+  record Awaits (a e : Standing R W M) (sents : List Sent) : Type 0 where
+    pub accepted : N.AreAccepted charset a.areas.limits sents
+    pub bytes : N.AreBytes (N.wires_of sents)
+    pub begins : tell.remaining a.devices.from.device ≡ Some (N.wires_of sents)
+    pub reads : N.IsAnswered a.devices.from.failures e.devices.from.failures
+    pub writes : N.IsAnswered a.devices.to.failures e.devices.to.failures
+
+  -- an accepted response was read and reported, and the others are to come
+  record Stepped (a b e : Standing R W M) (report : Report) (sent : Sent) (sents : List Sent) : Type 0 where
     pub report_is : report ≡ N.report_on sent
-    pub left : tell.remaining b.devices.from.device ≡ Some rest
     pub text : N.Appends (tell.contents a.devices.to.device) (tell.contents b.devices.to.device) (N.text sent.tokens)
     pub line : N.SaysOrFails tell.said a.devices.notes b.devices.notes (N.answer_lines (Ok (N.report_on sent)) (N.error_text sent.tokens))
-    pub limits : b.areas.limits ≡ a.areas.limits
-    pub reads : b.devices.from.failures ≡ a.devices.from.failures
-    pub writes : b.devices.to.failures ≡ a.devices.to.failures
+    pub next : Awaits b e sents
 
-  module _ (a : Standing R W M) (sent : Sent) (rest : List ℕ) (accepted : N.IsAccepted charset a.areas.limits sent)
-      (bytes : N.AreBytes (wire_of sent.packets ++ rest)) (begins : tell.remaining a.devices.from.device ≡ Some (wire_of sent.packets ++ rest)) where
+  module _ {a e : Standing R W M} {sent : Sent} {sents : List Sent} (w : Awaits a e (sent ∷ sents)) where
     -- what an export of it was given, after a look ahead
     given : Standing R W M → Standing R W M → ExportInput
     given b c = N.given_of charset (N.moment_of tell b) (N.moment_of tell c)
 
-    same_limits : (b c : Standing R W M) → N.Sees tell N.false a b → N.IsAccepted charset (N.limits_of (given b c)) sent
+    stepped : {c : Standing R W M} {report : Report} → N.ReturnsNext tell charset a c (Ok report) → Stepped a c e report sent sents
     unfolding given
-    same_limits = grind arith
-
-    same_input : (b c : Standing R W M) → N.Sees tell N.false a b → (given b c).before.reader.bytes ≡ Some (wire_of sent.packets ++ rest)
-    unfolding given
-    same_input b c sees = grind arith
-
-    stepped : (c : Standing R W M) (report : Report) → N.ReturnsNext tell charset a c (Ok report) → Stepped a c report sent rest
-    unfolding given
-    stepped c report next =
-        let b = next.0 in
-        let sees = next.1 in
-        let returns = next.2 in
-        let step = reported (given b c) sent rest (grind arith) bytes (grind arith) report returns.exports.tells in
+    stepped {c} {report} (b, sees, returns) =
+        let step = reported (given b c) sent (N.wires_of sents) (grind arith) w.bytes (grind arith) report returns.exports.tells in
         let counts = counts_stay (given b c) report returns.exports.gives in
         let report_is : report ≡ N.report_on sent = cc in
+        let bytes = N.AreBytes-back (wire_of sent.packets) (N.wires_of sents) w.bytes in
         grind arith
 
     -- such a response doesn't stop if no device fails
-    not_stopped : (c : Standing R W M) (stopped : Stopped) → N.StopsNext tell charset a c stopped
-        → N.IsAnswered a.devices.from.failures c.devices.from.failures → N.IsAnswered a.devices.to.failures c.devices.to.failures → ⊥
+    not_stopped : {stopped : Stopped} → N.StopsNext tell charset a e stopped → ⊥
     unfolding given
-    not_stopped c stopped (inl next) reads writes =
-        let b = next.0 in
-        let sees = next.1 in
-        let step = succeeded (given b c) sent rest (grind arith) bytes (grind arith) (Err stopped) next.2.exports.tells (grind arith)
+    not_stopped {stopped} (inl (b, sees, returns)) =
+        let step = succeeded (given b e) sent (N.wires_of sents) (grind arith) w.bytes (grind arith) (Err stopped) returns.exports.tells (grind arith)
         (grind arith) in
         grind arith
-    not_stopped c stopped (inr fails) reads writes = grind arith
+    not_stopped (inr fails) = grind arith
 
   -- what a run from here on delivers
   pub record Delivered (a e : Standing R W M) (reports : List Report) (stop : Option Stopped) (sents : List Sent) : Type 0 where
@@ -136,62 +121,36 @@ module _ {R W M : Type 0} (tell : Telling R W M) (charset : Charset) where
     pub texts : N.Appends (tell.contents a.devices.to.device) (tell.contents e.devices.to.device) (N.texts_of sents)
     pub lines : SaysAll tell.said a.devices.notes e.devices.notes (N.lines_of sents)
 
-  -- the input is over
-  over : (a e : Standing R W M) → tell.remaining a.devices.from.device ≡ Some [] → N.Sees tell N.true a e → Delivered a e [] None []
-  over = grind (arith, known_kept, N.Appends-nil)
-
-  -- no more can be counted, and the input is over too
-  counted : (a e : Standing R W M) → tell.remaining a.devices.from.device ≡ Some [] → e ≡ a → Delivered a e [] None []
-  counted = grind (arith, N.Appends-nil)
-
-  -- an input without a byte has no response
-  none_next : {a c : Standing R W M} {answer : Result Report Stopped} → tell.remaining a.devices.from.device ≡ Some []
-      → N.ReturnsNext tell charset a c answer → ⊥
-  none_next = grind arith
-
   -- an input without a byte ends a run
-  ended : (n : ℕ) (stop : Option Stopped) (m e : Standing R W M) → N.EndsAfter tell charset n stop m e → tell.remaining m.devices.from.device ≡ Some []
-      → N.IsAnswered m.devices.from.failures e.devices.from.failures → Delivered m e [] stop []
-  ended n None m e (inl sees) begins reads = over m e begins sees
-  ended n None m e (inr x) begins reads = counted m e begins x.1
-  ended n (Some stopped) m e (inl next) begins reads = grind arith
-  ended n (Some stopped) m e (inr fails) begins reads = grind arith
+  ended : (n : ℕ) (stop : Option Stopped) {a e : Standing R W M} → N.EndsAfter tell charset n stop a e → Awaits a e [] → Delivered a e [] stop []
+  ended n None (inl sees) w = grind (arith, known_kept, N.Appends-nil)
+  ended n None (inr x) w = grind (arith, N.Appends-nil)
+  ended n (Some stopped) (inl next) w = grind arith
+  ended n (Some stopped) (inr fails) w = grind arith
 
   -- a run doesn't end before an accepted response
-  not_ended : (s : Sent) (ss : List Sent) (k n : ℕ) (stop : Option Stopped) (m e : Standing R W M) → N.EndsAfter tell charset n stop m e → n ≡ k
-      → k + length (s ∷ ss) < 2 ^ 64 → N.IsAccepted charset m.areas.limits s → N.AreBytes (N.wires_of (s ∷ ss))
-      → tell.remaining m.devices.from.device ≡ Some (N.wires_of (s ∷ ss)) → N.IsAnswered m.devices.from.failures e.devices.from.failures
-      → N.IsAnswered m.devices.to.failures e.devices.to.failures → ⊥
-  not_ended s ss k n None m e (inl sees) n_is fits accepted bytes begins reads writes = grind (arith, some_wire, told_over)
-  not_ended s ss k n None m e (inr x) n_is fits accepted bytes begins reads writes = omega (arith, x.0)
-  not_ended s ss k n (Some stopped) m e stops n_is fits accepted bytes begins reads writes =
-      not_stopped m s (N.wires_of ss) accepted bytes begins e stopped stops reads writes
+  not_ended : {s : Sent} {ss : List Sent} (n : ℕ) (stop : Option Stopped) {a e : Standing R W M} → N.EndsAfter tell charset n stop a e
+      → n + length (s ∷ ss) < 2 ^ 64 → Awaits a e (s ∷ ss) → ⊥
+  not_ended n None (inl sees) fits w = grind (arith, some_wire, told_over)
+  not_ended n None (inr x) fits w = omega (arith, x.0)
+  not_ended n (Some stopped) stops fits w = not_stopped w stops
 
-  delivered : (reports : List Report) (sents : List Sent) (k n : ℕ) (stop : Option Stopped) (a m e : Standing R W M)
+  delivered : (reports : List Report) (sents : List Sent) (k n : ℕ) (stop : Option Stopped) (m : Standing R W M) {a e : Standing R W M}
       → N.Reports tell charset a reports m → N.EndsAfter tell charset n stop m e → n ≡ k + length reports → k + length sents < 2 ^ 64
-      → N.AreAccepted charset a.areas.limits sents → N.AreBytes (N.wires_of sents) → tell.remaining a.devices.from.device ≡ Some (N.wires_of sents)
-      → N.IsAnswered a.devices.from.failures e.devices.from.failures → N.IsAnswered a.devices.to.failures e.devices.to.failures
-      → Delivered a e reports stop sents
-  delivered [] [] k n stop a m e reported ends n_is fits accepted bytes begins reads writes =
-      let E : Standing R W M → Type 0 = λ s. N.EndsAfter tell charset n stop s e in
-      ended n stop a e (grind arith) begins reads
-  delivered [] (s ∷ ss) k n stop a m e reported ends n_is fits accepted bytes begins reads writes =
-      let E : Standing R W M → Type 0 = λ s. N.EndsAfter tell charset n stop s e in
-      absurd (not_ended s ss k n stop a e (grind arith) (omega arith) fits accepted.0 bytes begins reads writes)
-  delivered (r ∷ rs) [] k n stop a m e reported ends n_is fits accepted bytes begins reads writes = absurd (grind arith)
-  delivered (r ∷ rs) (s ∷ ss) k n stop a m e reported ends n_is fits accepted bytes begins reads writes =
-      let b = reported.0 in
-      let step = stepped a s (N.wires_of ss) accepted.0 bytes begins b r reported.1 in
-      let A : N.Limits → Type 0 = λ limits. N.AreAccepted charset limits ss in
-      let rest = delivered rs ss (k + 1) n stop b m e reported.2 ends (omega arith) (omega arith) (grind arith)
-      (N.AreBytes-back (wire_of s.packets) (N.wires_of ss) bytes) step.left (subst (λ (f : ℕ). N.IsAnswered f e.devices.from.failures) (sym step.reads) reads)
-      (subst (λ (f : ℕ). N.IsAnswered f e.devices.to.failures) (sym step.writes) writes) in
+      → Awaits a e sents → Delivered a e reports stop sents
+  delivered [] [] k n stop m {e = e} is ends n_is fits w = ended n stop (subst (λ s. N.EndsAfter tell charset n stop s e) is ends) w
+  delivered [] (s ∷ ss) k n stop m {e = e} is ends n_is fits w =
+      absurd (not_ended n stop (subst (λ s. N.EndsAfter tell charset n stop s e) is ends) (omega arith) w)
+  delivered (r ∷ rs) [] k n stop m reported ends n_is fits w = absurd (grind arith)
+  delivered (r ∷ rs) (s ∷ ss) k n stop m reported ends n_is fits w =
+      let step = stepped w reported.1 in
+      let rest = delivered rs ss (k + 1) n stop m reported.2 ends (omega arith) (omega arith) step.next in
       record {
         reports_are = rw (step.report_is, rest.reports_are);
         none_stops = rest.none_stops;
         left = rest.left;
         texts = N.Appends-trans _ _ _ (N.text s.tokens) (N.texts_of ss) step.text rest.texts;
-        lines = says_both tell.said a.devices.notes b.devices.notes e.devices.notes _ (N.lines_of ss) step.line rest.lines;
+        lines = says_both tell.said _ _ _ _ (N.lines_of ss) step.line rest.lines;
       }
 
 -- all responses that the input is are delivered
@@ -200,8 +159,8 @@ pub delivers_accepted : {R W M : Type 0} (tell : Telling R W M) (charset : Chars
 delivers_accepted tell charset old new status x sents accepted bytes begins fits none =
     let reads = subst (λ (from : Counted _). N.IsAnswered old.devices.from.failures from.failures) x.reader none.reader in
     let writes = subst (λ (to : Counted _). N.IsAnswered old.devices.to.failures to.failures) x.writer none.writer in
-    let d = delivered tell charset x.reports sents 0 (length x.reports) x.stop old x.runs.middle x.middle x.runs.reported x.runs.ends
-    (omega arith) (omega arith) accepted bytes begins reads writes in
+    let d = delivered tell charset x.reports sents 0 (length x.reports) x.stop x.runs.middle {e = x.middle} x.runs.reported x.runs.ends (omega arith)
+    (omega arith) (record { accepted = accepted; bytes = bytes; begins = begins; reads = reads; writes = writes }) in
     grind (arith, N.length-map, says_last)
 
 -- the same of work that had memory

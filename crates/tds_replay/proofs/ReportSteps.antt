@@ -18,9 +18,7 @@ use Rattle.tds_replay.specs.Responses.{EndsAfter, Reports, ReturnsNext, RunsTo, 
 -- one more report
 pub Reports-snoc : {R W N : Type 0} (tell : Telling R W N) (charset : Charset) (a b c : Standing R W N) (reports : List Report) (report : Report)
     → Reports tell charset a reports b → ReturnsNext tell charset b c (Ok report) → Reports tell charset a (reports ++ report ∷ []) c
-Reports-snoc {R} {W} {N} tell charset a b c [] report is next =
-    let P : Standing R W N → Type 0 = λ s. ReturnsNext tell charset s c (Ok report) in
-    (c, subst P is next, refl)
+Reports-snoc tell charset a b c [] report is next = (c, subst (λ s. ReturnsNext tell charset s c (Ok report)) is next, refl)
 Reports-snoc tell charset a b c (r ∷ rs) report is next = (is.0, is.1, Reports-snoc tell charset is.0 b c rs report is.2 next)
 
 status_of_two : (a b : Bool) → (if a || (b || false) then ServerError else Done) ≡ (if b then ServerError else if a then ServerError else Done)

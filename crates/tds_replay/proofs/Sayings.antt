@@ -1,16 +1,15 @@
 -- Texts that are gathered and written to the notes one after the other.
-use Rattle.std.proofs.Common.{◌≡◌, ◌≢◌, ◌∙◌, ◌+◌, ◌<◌, ℕ, List, [], ◌∷◌, ◌++◌, Option, Result, Ok, Err, false, refl, sym, ap, append_assoc, append-nil, get_or}
+use Rattle.std.proofs.Common.{◌≡◌, ◌∙◌, ◌+◌, ◌<◌, ℕ, List, [], ◌∷◌, ◌++◌, Option, Result, Ok, Err, false, refl, append_assoc, append-nil, arith, get_or}
 use Rattle.std.proofs.Common.{length, take}
 use Rattle.std.proofs.KnownBytes.{Appends-nil, Appends-trans}
-use Rattle.std.proofs.lemmas.Bool.{ne_eqb}
 use Rattle.std.proofs.lemmas.Grind.{flat_map-append}
 use Rattle.std.proofs.lemmas.List.{take_more}
-use Rattle.std.specs.Prelude.{OnErr, codes, decimal, is_ok}
+use Rattle.std.specs.Prelude.{OnErr, is_ok}
 use Rattle.std.specs.List.{concat}
 use Rattle.tds_packet.specs.declared.counted.Counted.{Counted}
 use Rattle.tds_replay.specs.declared.pieces.Piece.{Piece}
 use Rattle.tds_replay.specs.declared.pieces.NoteFailed.{NoteFailed}
-use Rattle.tds_replay.specs.Lines.{piece_text, text_of, values_line}
+use Rattle.tds_replay.specs.Lines.{piece_text, text_of}
 use Rattle.tds_replay.specs.Saying.{AddsText, Gathers, Says, WritesText}
 
 -- a text was written, and then another, or not
@@ -20,42 +19,23 @@ says_then contents old mid new a b first (Ok x) says =
     (Appends-trans (contents old.device) (contents mid.device) (contents new.device) a b first.0 says.0, says.1 ∙ first.1)
 says_then contents old mid new a b first (Err x) says = rw first.1 at says
 
--- the same with a text of another form
-pub says_as : {N U : Type 0} (contents : N → Option (List ℕ)) (old new : Counted N) (a b : List ℕ) → a ≡ b → (r : Result U NoteFailed)
-    → Says contents old new a r → Says contents old new b r
-says_as contents old new a b is r says = rw is at says
-
 -- a text was gathered, and then another, or not
 pub gathers_then : {N U : Type 0} {contents : N → Option (List ℕ)} {old mid : Counted N} {had between a : List ℕ} (new : Counted N) (has b : List ℕ)
     → AddsText contents old mid had between a → (r : Result U NoteFailed) → Gathers contents mid new between has b r
     → Gathers contents old new had has (a ++ b) r
-gathers_then {contents} {old} {mid} {had} {between} {a} new has b first (Ok x) more =
-    let whole : had ++ (a ++ b) ≡ (first.sent ++ more.sent) ++ has =
-    sym (append_assoc had a b) ∙ ap (λ t. t ++ b) first.rest ∙ append_assoc first.sent between b ∙ ap (λ t. first.sent ++ t) more.rest
-    ∙ sym (append_assoc first.sent more.sent has) in
-    record { sent = first.sent ++ more.sent; writes = says_then contents old mid new first.sent more.sent first.writes (Ok x) more.writes; rest = whole }
+gathers_then {contents} {old} {mid} new has b first (Ok x) more =
+    record {
+      sent = first.sent ++ more.sent;
+      writes = says_then contents old mid new first.sent more.sent first.writes (Ok x) more.writes;
+      rest = grind (arith, append_assoc);
+    }
 gathers_then {contents} {old} {mid} new has b first (Err x) more = rw first.writes.1 at more
-
--- the same with a text of another form
-pub gathers_as : {N U : Type 0} (contents : N → Option (List ℕ)) (old new : Counted N) (had has a b : List ℕ) → a ≡ b → (r : Result U NoteFailed)
-    → Gathers contents old new had has a r → Gathers contents old new had has b r
-gathers_as contents old new had has a b is r gathers = rw is at gathers
 
 -- what was gathered is written, or not
 pub says_gathered : {N U : Type 0} {contents : N → Option (List ℕ)} {old mid : Counted N} {has text : List ℕ} (new : Counted N)
     → AddsText contents old mid [] has text → (r : Result U NoteFailed) → Says contents mid new has r → Says contents old new text r
 says_gathered {contents} {old} {mid} {has} {text} new first r says =
-    says_as contents old new _ text (sym first.rest) r (says_then contents old mid new first.sent has first.writes r says)
-
--- there was room for the text
-pub adds_all : {N : Type 0} (contents : N → Option (List ℕ)) (notes : Counted N) (had has text : List ℕ) → has ≡ had ++ text
-    → AddsText contents notes notes had has text
-adds_all contents notes had has text is = record { sent = []; writes = (Appends-nil (contents notes.device), refl); rest = sym is }
-
--- what was gathered was written, and then there was room, or the text was written too
-pub adds_after : {N : Type 0} (contents : N → Option (List ℕ)) (old new : Counted N) (had has text : List ℕ) → has ≡ text → WritesText contents old new had
-    → AddsText contents old new had has text
-adds_after contents old new had has text is writes = record { sent = had; writes = writes; rest = rw is }
+    rw (← first.rest) at (says_then contents old mid new first.sent has first.writes r says)
 
 pub adds_none : {N U : Type 0} (contents : N → Option (List ℕ)) (old mid new : Counted N) (had has text : List ℕ) → has ≡ [] → WritesText contents old mid had
     → (r : Result U NoteFailed) → Says contents mid new text r → Gathers contents old new had has text r
@@ -82,12 +62,5 @@ four_first a b c d e f = simp (append_assoc, append-nil)
 
 -- nothing is gathered for no text
 pub nothing_gathered : {N : Type 0} (contents : N → Option (List ℕ)) (notes : Counted N) (had t : List ℕ) → t ≡ [] → AddsText contents notes notes had had t
-nothing_gathered contents notes had t none = adds_all contents notes had had t (rw (none, append-nil) refl)
-
-pub no_values : (n : ℕ) → n ≡ 0 → values_line n ≡ []
-unfolding values_line
-no_values n e = rw e
-
-pub some_values : (n : ℕ) → n ≢ 0 → values_line n ≡ concat (codes "return values " ∷ decimal n ∷ codes "\n" ∷ [])
-unfolding values_line
-some_values n e = rw (ne_eqb n 0 e)
+nothing_gathered contents notes had t none =
+    record { sent = []; writes = (Appends-nil (contents notes.device), refl); rest = rw (none, append-nil) refl }

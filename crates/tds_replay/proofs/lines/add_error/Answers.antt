@@ -6,8 +6,7 @@ use Rattle.tds_replay.proofs.Sayings.{nothing_gathered}
 
 pub returns-in_default : goal.returns-in_default
 unfolding error_line
-returns-in_default g c =
-    nothing_gathered g.W.Write.contents c.args.notes.now c.args.gathered.now.items _ (ap (λ e. error_line e c.args.message.now) c.in_default.is)
+returns-in_default g c = nothing_gathered _ _ _ _ (ap (λ e. error_line e c.args.message.now) c.in_default.is)
 
 pub returns : goal.returns
 unfolding error_line

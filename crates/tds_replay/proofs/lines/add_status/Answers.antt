@@ -6,7 +6,7 @@ use Rattle.tds_replay.proofs.Sayings.{nothing_gathered}
 
 pub returns-in_default : goal.returns-in_default
 unfolding status_line
-returns-in_default g c = nothing_gathered g.W.Write.contents c.args.notes.now c.args.gathered.now.items _ (ap status_line c.in_default.is)
+returns-in_default g c = nothing_gathered _ _ _ _ (ap status_line c.in_default.is)
 
 pub returns : goal.returns
 unfolding status_line
