@@ -32,7 +32,7 @@ after_columns bytes count columns = if length columns == count then N.WholeDescr
 -- a further column comes
 pub at_column : (bytes : List ℕ) (count : ℕ) (columns : List Column) → length columns < count
     → after_columns bytes count columns ≡ InColumn bytes count columns N.ColumnHead
-at_column = grind (arith, N.choose_false, N.ne_eqb)
+at_column = grind arith
 
 -- a Count of columns that fit
 count_free : (room n : ℕ) (bytes : List ℕ) → 0 < n → n < 65535 → 2 + 8 * n ≤ room → (N.count_fault room n ≡ N.None)
@@ -49,7 +49,7 @@ module _ (room : ℕ) where
 
     info_is_read : (byte : ℕ) (rest : List ℕ) (kind : Kind) → N.rest_length byte ≡ Some (length rest) → N.kind_of (byte ∷ rest) ≡ Some kind
         → Spelt (description room) (N.with_type b count cols byte (length rest)) rest (InColumn (b ++ rest) count cols (N.NameCount kind))
-    info_is_read byte [] kind n k = grind (arith, N.Spelt-none, N.append-nil)
+    info_is_read byte [] kind n k = grind (arith, N.append-nil)
     info_is_read byte (x ∷ xs) kind n k = grind (arith, N.Spelt-step, N.choose_false)
 
     units_are_read : (kind : Kind) (units : ℕ) → (length b + 1) + (2 * units + 8 * (count - (length cols + 1))) ≤ room
@@ -58,8 +58,8 @@ module _ (room : ℕ) where
 
     name_is_read : (kind : Kind) (units : ℕ) (name : List ℕ) → length name ≡ 2 * units → Spelt (description room) (N.with_units b count cols kind units) name
         (N.with_column (b ++ name) count cols (record { kind = kind; name = name }))
-    name_is_read kind units [] l = grind (arith, N.Spelt-none, N.append-nil, N.choose_true)
-    name_is_read kind units (x ∷ xs) l = grind (arith, N.Spelt-step, N.choose_false, N.ne_eqb)
+    name_is_read kind units [] l = grind (arith, N.append-nil)
+    name_is_read kind units (x ∷ xs) l = grind (arith, N.Spelt-step)
 
   -- what spells a column is read as it
   pub column_is_read : (b : List ℕ) (count : ℕ) (cols : List Column) (c : Column) (bytes : List ℕ)
@@ -80,7 +80,7 @@ module _ (room : ℕ) where
 
   all_are_read : (b : List ℕ) (count : ℕ) (cols cs : List Column) (bytes : List ℕ) → count ≡ length cols + length cs → length b + length bytes ≤ room
       → N.SpellsColumns cs bytes → Spelt (description room) (after_columns b count cols) bytes (N.WholeDescription (b ++ bytes) (cols ++ cs))
-  all_are_read b count cols [] bytes n fits h = grind (arith, N.append-nil, N.add-zero, N.Spelt-none, N.choose_true, N.nat_tests)
+  all_are_read b count cols [] bytes n fits h = grind (arith, N.append-nil, N.add-zero, N.Spelt-none, N.nat_tests)
   all_are_read b count cols (c ∷ cs) bytes n fits h =
       let la : length bytes ≡ length h.0 + length h.1 = rw (h.2, length-append) in
       let more = rw length-append at (all_are_read (b ++ h.0) count (cols ++ c ∷ []) cs h.1 (grind (arith, length-append))
@@ -92,7 +92,7 @@ module _ (room : ℕ) where
       → count ≡ length cols + (1 + length cs) → length b + length bytes ≤ room → N.SpellsColumns (c ∷ cs) bytes
       → Spelt (description room) (InColumn b count cols N.ColumnHead) bytes (N.WholeDescription (b ++ bytes) (cols ++ c ∷ cs))
   columns_are_read b count cols c cs bytes n fits h =
-      rw (at_column b count cols (omega (arith, n))) at (all_are_read b count cols (c ∷ cs) bytes (omega (arith, n)) fits h)
+      rw (at_column b count cols (omega arith)) at (all_are_read b count cols (c ∷ cs) bytes (omega arith) fits h)
 
   -- What spells a description is read as it.
   pub description_is_read : (cs : List Column) (bytes : List ℕ) → N.SpellsDescription room cs bytes
@@ -104,4 +104,4 @@ module _ (room : ℕ) where
       let la : length bytes ≡ 2 + length h.rest = grind arith in
       let free = count_free room n count h.some h.most (grind (arith, least-SpellsColumns)) in
       rw h.spelt (N.Spelt-append (description room) _ _ _ _ _ (N.Spelt-step (description room) N.BeforeCount count (after_columns count n [])
-      (omega arith) N.refl (rw two free.0) (rw two free.1)) (all_are_read count n [] cs h.rest (omega arith) (omega (arith, la, h.within)) h.each))
+      (omega arith) N.refl (rw two free.0) (rw two free.1)) (all_are_read count n [] cs h.rest (omega arith) (omega arith) h.each))

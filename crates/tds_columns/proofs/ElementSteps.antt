@@ -7,7 +7,7 @@ module _ {S : Type 0} {g : N.Grammar S N.Fault} {s : S} {a b : N.PayloadView} {b
   abbrev pub reads_into : {n : ℕ} {t : S} (e : N.TakesInto a b before after n) → 0 < n → g.size s ≡ n → g.fault s e.element ≡ N.None
       → g.add s e.element ≡ t → N.Reads g s a b t
   reads_into {t} e some size free leads =
-      N.reads_one g s a b e.element t (record { some = omega (arith, e.whole, some); whole = e.whole ∙ N.sym size; free = free }) (rw e.whole e.takes) leads
+      N.reads_one g s a b e.element t (grind arith) (rw e.whole e.takes) leads
 
   -- it is refused
   pub refused_into : {n place : ℕ} {fault : N.Fault} (e : N.TakesInto a b before after n) → 0 < n → g.size s ≡ n → g.fault s e.element ≡ N.Some fault
@@ -17,7 +17,7 @@ module _ {S : Type 0} {g : N.Grammar S N.Fault} {s : S} {a b : N.PayloadView} {b
   -- it is cut
   pub cut_into : {n place : ℕ} {stop : N.Stop} → N.EndsInto a b before after place n stop → g.size s ≡ n → g.end_fault s ≡ N.Some N.MessageEnded
       → N.StopsReading g s a b place s stop
-  cut_into e size end = N.cut_at_once g s a b _ e.part e.own _ (rw size e.fewer) e.ends (grind (arith, N.began_is_cut))
+  cut_into e size end = N.cut_at_once g s a b _ e.part e.own _ (rw size e.fewer) e.ends (grind arith)
 
 -- an area that grew is cut back
 pub shrunk : (before : Space) (element : List ℕ) {after cut : Space} {start n : ℕ} → after ≡ N.appended before element → length element ≡ n

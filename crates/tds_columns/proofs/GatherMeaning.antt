@@ -10,7 +10,7 @@ Keeps d b = N.description_bytes d ≡ b
 
 module _ (room : ℕ) where
   kept_bytes : (d : N.DescriptionPart) (bytes : List ℕ) → N.Spelt (N.description room) N.BeforeCount bytes d → Keeps d bytes
-  kept_bytes d bytes h = N.Spelt-induct (N.description room) Keeps (grind (arith, N.bare_type, N.eq_true)) N.BeforeCount N.refl bytes d h
+  kept_bytes d bytes h = N.Spelt-induct (N.description room) Keeps (grind (arith, N.bare_type)) N.BeforeCount N.refl bytes d h
 
   -- what is read has its meaning
   pub described_means : (d : N.DescriptionPart) (bytes : List ℕ) → N.AreBytes bytes → N.Spelt (N.description room) N.BeforeCount bytes d

@@ -12,7 +12,7 @@ open_state = grind arith
 -- the bytes of an element are within what it leads to
 spans : (room : ℕ) (s : DescriptionPart) (e : List ℕ) → N.IsNext (N.description room) s e
     → length (N.description_bytes s) + length e ≤ span (N.add_described s e)
-spans = grind (arith, N.bare_type, N.choose, N.eq_true, N.is_some_value, N.length-append)
+spans = grind (arith, N.bare_type, N.length-append)
 
 module _ {room : ℕ} {s : DescriptionPart} {a b : PayloadView} {before after : Space} where
   -- the next element is cut
@@ -45,7 +45,7 @@ module _ {room : ℕ} {s : DescriptionPart} {a b : PayloadView} {before after : 
       → N.StopsDescribing room s a b place before.peak cut (record { fault = fault; place = N.Payload place })
   description_refused {n} t some size first kept at is =
       let cut = shrunk before t.element t.stands t.whole at is in
-      record { at = s; stops = refused_into t some size first; kept = cut.0 ∙ kept; bound = grind (arith, open_state); further = N.le_refl (span s) }
+      record { at = s; stops = refused_into t some size first; kept = cut.0 ∙ kept; bound = grind arith; further = N.le_refl (span s) }
 
 module _ {room : ℕ} {s t : DescriptionPart} {a b c : PayloadView} {p q k : ℕ} {middle after : Space} where
   pub describes_both : {u : DescriptionPart} {r room' : ℕ} → room' ≡ room → Describes room s a b p q k middle t
@@ -55,8 +55,8 @@ module _ {room : ℕ} {s t : DescriptionPart} {a b c : PayloadView} {p q k : ℕ
         reads = grind (arith, N.reads_both);
         place_is = grind (arith, N.length-append);
         kept = y.kept;
-        bound = omega (arith, x.bound);
-        further = omega (arith, x.further);
+        bound = omega arith;
+        further = omega arith;
       }
 
   pub stops_describing_after : {room' : ℕ} {stop : Stop} → room' ≡ room → Describes room s a b p q k middle t
@@ -101,8 +101,8 @@ module _ {room count : ℕ} {a b : PayloadView} {before after kept : Space} {pla
     (number : count ≡ N.little_number 2 after.bytes) where
   pub count_read : {place' : ℕ} {to : DescriptionPart} → N.count_fault room count ≡ None → N.with_count after.bytes count ≡ to → place' ≡ place + 2
       → kept.peak ≡ after.peak → kept.bytes ≡ N.description_bytes to → Describes room N.BeforeCount a b place place' before.peak kept to
-  count_read free leads at peak bytes = description_read t (omega arith) refl (grind (arith, count_is)) (grind (arith, count_is)) at none peak bytes
+  count_read free leads at peak bytes = description_read t (omega arith) refl (grind arith) (grind arith) at none peak bytes
 
   pub count_refused : {fault : N.Fault} → N.count_fault room count ≡ Some fault → kept ≡ N.holding after []
       → N.StopsDescribing room N.BeforeCount a b place before.peak kept (record { fault = fault; place = N.Payload place })
-  count_refused why = description_refused {start = 0} t (omega arith) refl (grind (arith, count_is)) none (rw none)
+  count_refused why = description_refused {start = 0} t (omega arith) refl (grind arith) none (rw none)

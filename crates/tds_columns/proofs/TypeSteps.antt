@@ -10,7 +10,7 @@ module _ {o a : N.PayloadView} (head : N.List ℕ) (taken : N.WereTaken o a head
     (known : N.rest_length (slice_index head 7) ≡ Some rest) where
   -- the eight bytes were taken, and lead to this state
   abbrev head_read : Reads returned_type TypeHead o a (N.with_type_byte (slice_index head 7) rest)
-  head_read = N.reads_one returned_type TypeHead o a head _ (record { some = omega (arith, eight); whole = eight; free = rw known }) (rw eight taken.0)
+  head_read = N.reads_one returned_type TypeHead o a head _ (grind arith) (rw eight taken.0)
       (rw known)
 
   -- a stop after the eight bytes
@@ -20,16 +20,15 @@ module _ {o a : N.PayloadView} (head : N.List ℕ) (taken : N.WereTaken o a head
       let at : (place - 8) + length head ≡ place = omega arith in
       record {
         at = N.TypeRest (slice_index head 7);
-        stops = N.stops_after returned_type TypeHead _ o a b (place - 8) _ _ head_read (grind (arith, N.choose_false, N.ne_eqb));
+        stops = N.stops_after returned_type TypeHead _ o a b (place - 8) _ _ head_read (grind (arith, N.ne_eqb));
       }
 
   -- what follows describes the kind
   pub type_whole : {b : N.PayloadView} {before after : N.Space} {kind : N.Kind} (t : N.TakesInto a b before after rest)
       → N.kind_of (slice_index head 7 ∷ t.element) ≡ Some kind → Reads returned_type TypeHead o b (N.KnownType kind)
   type_whole {b} {kind} t found = N.choose (λ s. Reads returned_type TypeHead o a s → Reads returned_type TypeHead o b (N.KnownType kind)) (rest == 0) _ _
-      (λ z p. let empty = N.nil_from_length t.element (grind (arith, N.eq_true)) in
-      let takes : N.Takes a b t.element (length t.element) = rw t.whole t.takes in
+      (λ z p. let empty = N.nil_from_length t.element (grind arith) in
       N.reads_both returned_type _ _ _ _ _ _ (rw (rw empty at found) at p)
-      (record { bytes = []; spelt = N.Spelt-none returned_type (N.KnownType kind); takes = rw empty at takes }))
+      (grind arith))
       (λ z p. N.reads_both returned_type _ _ _ _ _ _ p (N.ElementSteps.reads_into t (omega (arith, N.eq_false rest 0 z)) (rw known) (rw found) (rw found)))
       head_read

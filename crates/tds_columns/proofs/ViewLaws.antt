@@ -44,12 +44,12 @@ front_of = grind (arith, laid)
 -- columns that are spelt lie there
 columns_lie : (cs : List Column) (bytes : List ℕ) → N.SpellsColumns cs bytes → (N.columns_in (length cs) bytes ≡ cs) × (N.are_columns (length cs) bytes ≡ true)
 columns_lie [] bytes h = (refl, refl)
-columns_lie (c ∷ cs) bytes h = grind (arith, N.drop-append_seam, N.and_from, (front_of c h.0 h.1 h.3), (columns_lie cs h.1 h.4))
+columns_lie (c ∷ cs) bytes h = grind (arith, N.drop-append_seam, (front_of c h.0 h.1 h.3), (columns_lie cs h.1 h.4))
 
 -- a description that is spelt shows its columns
 pub description_shows : (room : ℕ) (columns : List Column) (bytes : List ℕ) → N.SpellsDescription room columns bytes → (N.columns_of bytes ≡ columns)
     × (N.is_described bytes ≡ true) × (N.little_number 2 bytes ≡ length columns)
-description_shows = grind (arith, N.and_from, columns_lie, N.length-append, N.test_le)
+description_shows = grind (arith, columns_lie)
 
 -- ---- what a whole column at the front allows
 
@@ -74,7 +74,7 @@ pub from_type : (bytes : List ℕ) (n : ℕ) → 7 ≤ length bytes → take (1 
 from_type = grind arith
 
 pub lies : (bytes : List ℕ) → N.is_column bytes ≡ true → Lies bytes
-lies = grind (arith, N.and_parts, from_type, N.is_some_value, N.le_true, N.length-drop, N.length-take-le, named_of, N.rest_length_of, N.valid_of)
+lies = grind (arith, N.and_parts, from_type, N.is_some_value, N.le_true, named_of)
 
 -- all bytes from a place on
 pub all_after : (bytes : List ℕ) (n : ℕ) → take (length bytes - n) (drop n bytes) ≡ drop n bytes

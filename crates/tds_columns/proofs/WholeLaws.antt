@@ -10,12 +10,12 @@ use Rattle.tds_columns.specs.View.{IsDescription}
 
 -- a byte more
 one_further : (n : ℕ) (bytes : List ℕ) → n + 1 ≤ length bytes → take (n + 1) bytes ≡ take n bytes ++ N.slice_index bytes n ∷ []
-one_further = grind (arith, N.common_steps, take-add, N.drop-cons)
+one_further = grind (arith, take-add, N.drop-cons)
 
 -- the parts of a column
 column_parts : (bytes : List ℕ) (rest units : ℕ) → 8 + rest ≤ length bytes → N.slice_index bytes (7 + rest) ≡ units → take ((8 + rest) + 2 * units) bytes
     ≡ (take 6 bytes ++ N.slice_index bytes 6 ∷ take rest (drop 7 bytes)) ++ units ∷ take (2 * units) (drop (8 + rest) bytes)
-column_parts = grind (arith, one_further, from_type, take-add, N.append_assoc)
+column_parts = grind (arith, one_further, take-add, N.append_assoc)
 
 -- a column whose type information and name are there
 pub column_begins : (bytes : List ℕ) (rest units : ℕ) {kind : N.Kind} → (8 + rest) + 2 * units ≤ length bytes
@@ -36,26 +36,20 @@ column_begins bytes rest units {kind} fits known is byte = (
   fits,
 )
 
--- no column
-pub no_columns : (bytes : List ℕ) → BeginsColumns bytes 0 0
-no_columns = grind arith
-
 -- a further column
 pub columns_begin : (bytes : List ℕ) (count size more : ℕ) → BeginsColumns bytes count size
     → BeginsColumn (take (length bytes - size) (drop size bytes)) more → BeginsColumns bytes (count + 1) (size + more)
 columns_begin bytes count size more h all = let one = rw (all_after bytes size) at all in (
   h.0 ++ one.0 ∷ [],
-  omega (arith, N.length-append h.0 (one.0 ∷ []), h.1),
+  omega (arith, N.length-append h.0 (one.0 ∷ [])),
   rw (take-add size more bytes) (grind (arith, one_more_column)),
-  omega (arith, N.length-drop size bytes, h.3, one.2),
+  omega (arith, N.length-drop size bytes),
 )
 
 -- the description is in the area, and was taken
 pub keeps_whole : (room : ℕ) (bytes : List ℕ) (count size : ℕ) {a b : N.PayloadView} (peak : ℕ) (after : N.Space) {place place' : ℕ}
     → BeginsDescription room bytes count size → N.Takes a b (take size bytes) 0 → after.bytes ≡ take size bytes → after.peak ≤ N.max peak size
-    → place' ≡ place + size → (columns : List N.Column) × (length columns ≡ count)
-    × N.Describes room N.BeforeCount a b place place' peak after (N.WholeDescription after.bytes columns)
-    × N.Takes a b after.bytes (length after.bytes) × N.SpellsDescription room columns after.bytes
+    → place' ≡ place + size → N.DescribesAll room a b place place' peak after (N.Columns count)
 keeps_whole room bytes count size {a} {b} peak after {place} {place'} h took same low at =
     let whole : length (take size bytes) ≡ size = N.length-take-le size bytes h.3 in
     let all : N.Takes a b (take size bytes) (length (take size bytes)) = Takes-more a b (take size bytes) 0 _ (omega arith) took in (
@@ -65,8 +59,8 @@ keeps_whole room bytes count size {a} {b} peak after {place} {place'} h took sam
         reads = record { bytes = take size bytes; spelt = rw same (N.ColumnLaws.description_is_read room h.0 (take size bytes) h.2); takes = all };
         place_is = rw whole at;
         kept = refl;
-        bound = rw (same, whole) (omega (arith, low));
-        further = rw (same, whole) (omega (arith, N.ap length h.2.spelt));
+        bound = rw same (omega arith);
+        further = rw same (omega (arith, N.ap length h.2.spelt));
       },
       rw same all,
       rw same h.2,
@@ -75,21 +69,17 @@ keeps_whole room bytes count size {a} {b} peak after {place} {place'} h took sam
 -- the description is taken
 pub takes_whole : (room : ℕ) (bytes : List ℕ) (count size : ℕ) {a b : N.PayloadView} (before after : N.Space) {place place' : ℕ}
     → BeginsDescription room bytes count size → N.Takes a b (take size bytes) 0 → before.bytes ≡ []
-    → after ≡ N.appended before (take size bytes) → place' ≡ place + size → (columns : List N.Column) × (length columns ≡ count)
-    × N.Describes room N.BeforeCount a b place place' before.peak after (N.WholeDescription after.bytes columns)
-    × N.Takes a b after.bytes (length after.bytes) × N.SpellsDescription room columns after.bytes
+    → after ≡ N.appended before (take size bytes) → place' ≡ place + size → N.DescribesAll room a b place place' before.peak after (N.Columns count)
 takes_whole room bytes count size before after h took none stands at =
     let whole : length (take size bytes) ≡ size = N.length-take-le size bytes h.3 in
     keeps_whole room bytes count size before.peak after h took (grind arith)
-    (rw stands (omega (arith, N.ap length none, N.length-append before.bytes (take size bytes), whole))) at
+    (grind arith) at
 
 -- the description that the area has comes again, and was taken
 pub takes_again : (area : N.Space) (count : ℕ) (next : List ℕ) {a b : N.PayloadView} {place place' : ℕ} → IsDescription area.bytes
     → ((room : ℕ) (columns : List N.Column) → N.SpellsDescription room columns area.bytes → count ≡ length columns) → length area.bytes ≤ area.room
     → length area.bytes ≤ length next → take (length area.bytes) next ≡ area.bytes → N.Takes a b (take (length area.bytes) next) 0
-    → place' ≡ place + length area.bytes → (columns : List N.Column) × (length columns ≡ count)
-    × N.Describes area.room N.BeforeCount a b place place' area.peak area (N.WholeDescription area.bytes columns)
-    × N.Takes a b area.bytes (length area.bytes) × N.SpellsDescription area.room columns area.bytes
+    → place' ≡ place + length area.bytes → N.DescribesAll area.room a b place place' area.peak area (N.Columns count)
 takes_again area count next h counts fits within same took at =
     let d = h.2 in
     let again : N.SpellsDescription area.room h.1 area.bytes =
@@ -100,7 +90,7 @@ takes_again area count next h counts fits within same took at =
 -- what is kept of a description after a further column
 with_column_span : (bytes : List ℕ) (count : ℕ) (columns : List N.Column) (c : N.Column) → let d = N.with_column bytes count columns c in
     (N.description_bytes d ≡ bytes) × (length bytes ≤ N.span d)
-with_column_span = grind (arith, N.choose)
+with_column_span = grind arith
 
 -- a column is taken
 pub takes_column : (room count : ℕ) (columns : List N.Column) (bytes : List ℕ) (size : ℕ) {a b : N.PayloadView} (before after : N.Space) {place place' : ℕ}

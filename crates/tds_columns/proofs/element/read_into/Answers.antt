@@ -9,8 +9,8 @@ returns-in-Ok-fill-clause-gives g c =
     record {
       element = c.fill.new.to;
       whole = n;
-      takes = rw n at c.in-Ok-fill.ensures.all;
-      between = c.in-Ok-fill.ensures.between;
+      takes = grind N.arith;
+      between = grind N.arith;
       stands = N.grown _ _ _ c.fill.auto.to;
     }
 

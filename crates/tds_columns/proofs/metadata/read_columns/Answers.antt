@@ -22,12 +22,12 @@ returns-in_err-read_column-clause-gives g c =
     let columns = c.columns.invariant.reads in
     let read = rw (at_column c.columns.area.bytes c.args.count columns.0 (omega arith)) at columns.2 in
     N.passed _ _ _ _ c.from_residual.ensures.1 (N.GatherSteps.stops_describing_after c.columns.invariant.room read
-    (c.in_err-read_column.ensures.gives columns.0 columns.1))
+    (grind arith))
 
 pub columns-preserved : goal.columns-preserved
 columns-preserved g c =
     let columns = c.columns.invariant.reads in
-    let read = rw (at_column c.columns.area.bytes c.args.count columns.0 (omega (arith, columns.1, c.columns-test.true))) at columns.2 in
+    let read = rw (at_column c.columns.area.bytes c.args.count columns.0 (omega arith)) at columns.2 in
     let one = c.in_ok-read_column.ensures.gives columns.0 columns.1 in
     let len = N.length-append columns.0 (one.0 ∷ []) in
     let ok = c.in_ok-read_column.ensures in
@@ -36,7 +36,7 @@ columns-preserved g c =
       same = search rules;
       room = ok.leaves.room ∙ c.columns.invariant.room;
       fits = ok.fits;
-      reads = (columns.0 ++ one.0 ∷ [], omega (arith, len, columns.1), rw len (N.GatherSteps.describes_both c.columns.invariant.room read one.1));
+      reads = (columns.0 ++ one.0 ∷ [], omega arith, rw len (N.GatherSteps.describes_both c.columns.invariant.room read one.1));
     }
 
 pub returns-clause-gives : goal.returns-clause-gives

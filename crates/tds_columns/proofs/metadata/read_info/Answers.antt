@@ -5,7 +5,7 @@ use N.ElementSteps.{element_at}
 
 pub returns-in_err-read_into-clause-gives : goal.returns-in_err-read_into-clause-gives
 returns-in_err-read_into-clause-gives g c = λ count columns number. N.passed _ _ _ _ c.from_residual.ensures.1
-    (N.GatherSteps.description_cut (c.in_err-read_into.ensures.gives c.requires.going.going) (rw c.requires.follows.known) refl)
+    (grind (N.arith, N.GatherSteps.description_cut))
 
 pub returns-in-Some-clause-gives : goal.returns-in-Some-clause-gives
 returns-in-Some-clause-gives g c = λ count columns number. let t = c.in_ok-read_into.ensures.gives in

@@ -6,7 +6,7 @@ use N.GatherSteps.{column_bytes, description_read, name_after}
 
 pub returns-in_err-read_into-clause-gives : goal.returns-in_err-read_into-clause-gives
 returns-in_err-read_into-clause-gives g c = λ columns kind number. N.passed _ _ _ _ c.from_residual.ensures.1
-    (N.GatherSteps.description_cut (c.in_err-read_into.ensures.gives c.requires.going.going) refl refl)
+    (grind (N.arith, N.GatherSteps.description_cut))
 
 -- the number of the units, and what is judged of it
 judged : {a b : N.PayloadView} {before after : N.Space} (t : N.TakesInto a b before after 1) (columns : N.List N.Column) (count : ℕ) {bytes : N.List ℕ}

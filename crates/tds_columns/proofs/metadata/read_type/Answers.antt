@@ -16,7 +16,7 @@ no_fault = grind arith
 
 pub returns-in_err-read_into-clause-gives : goal.returns-in_err-read_into-clause-gives
 returns-in_err-read_into-clause-gives g c = λ columns number. N.passed _ _ _ _ c.from_residual.ensures.1
-    (N.GatherSteps.description_cut (c.in_err-read_into.ensures.gives c.requires.going.going) refl refl)
+    (grind (N.arith, N.GatherSteps.description_cut))
 
 pub returns-in-Err-clause-gives : goal.returns-in-Err-clause-gives
 returns-in-Err-clause-gives g c = λ columns number. let t = c.in_ok-read_into.ensures.gives in

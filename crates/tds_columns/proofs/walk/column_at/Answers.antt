@@ -21,19 +21,19 @@ at_front {bytes} {kind} {rest} {units} l known named is =
     let size : 8 + rest + 2 * units - (8 + rest) ≡ N.name_size bytes = omega (arith, is, N.ap (λ n. N.get_or bytes n 0) byte) in
     let k = named l.kind (rw (all_after bytes 7, r) l.named) in (
       rw k l.valid,
-      rw size (omega (arith, N.length-take-le (N.name_size bytes) (drop (8 + rest) bytes) (omega (arith, l.enough, r, N.length-drop (8 + rest) bytes)))),
+      rw size (omega (arith, N.length-take-le (N.name_size bytes) (drop (8 + rest) bytes) (omega (arith, r, N.length-drop (8 + rest) bytes)))),
       rw (k, size, r) (N.sym l.at),
     )
 
 -- a name has few bytes
 few : (bytes : N.List ℕ) (i start : ℕ) {units : ℕ} → units ≡ N.get_or bytes i 0 → ((k : ℕ) → Fits w8 (N.get_or bytes k 0))
     → N.length (take (start + 2 * units - start) (drop start bytes)) ≤ 510
-few bytes i start {units} is fits = omega (arith, is, (fits i).fits, length-take (start + 2 * units - start) (drop start bytes))
+few bytes i start {units} is fits = omega (arith, (fits i).fits, length-take (start + 2 * units - start) (drop start bytes))
 
 pub invariant_of-column : goal.invariant_of-column
 invariant_of-column c =
     let f = at_front (lies c.args.bytes.now c.requires) c.kind_at-kind.ensures.rest c.kind_at-kind.ensures.kind c.from.ensures in
-    record { valid = f.0; even = f.1; few = few c.args.bytes.now _ _ c.from.ensures c.type_inv.bytes }
+    record { valid = f.0; even = f.1; few = grind arith }
 
 pub returns-clause-column : goal.returns-clause-column
 returns-clause-column c = (at_front (lies c.args.bytes.now c.requires) c.kind_at-kind.ensures.rest c.kind_at-kind.ensures.kind c.from.ensures).2

@@ -12,11 +12,11 @@ column_at-size-requires = grind arith
 
 pub invariant_of-self : goal.invariant_of-self
 invariant_of-self c = record {
-  whole = rw (all_after _ c.column_at-size.result.1, c.column_at-size.ensures.size) (others _ _ c.if-self-eq0.false c.args.self.now.whole);
+  whole = grind (arith, all_after);
 }
 
 pub returns-clause-steps : goal.returns-clause-steps
-returns-clause-steps c = rw (all_after _ c.column_at-size.result.1, c.column_at-size.ensures.size, c.column_at-size.ensures.column) (grind arith)
+returns-clause-steps c = rw (all_after _ c.column_at-size.result.1) (grind arith)
 
 pub returns-clause-goes : goal.returns-clause-goes
-returns-clause-goes c = record { on = λ _. (tt, tt, rw (length_columns, length_columns) (omega arith)); keeps = tt; rests = λ _. tt }
+returns-clause-goes c = record { on = λ _. (tt, tt, grind (arith, length_columns)); keeps = tt; rests = λ _. tt }
