@@ -39,12 +39,7 @@ no_wire_fault {size} {limit} {input} unread {fault} m e f =
     let g = N.wire size limit in
     let same = (N.one_longest g _ _ _ _ _ _ f.longest (N.read_longest g _ _ _ (N.subst (Told g N.no_wire input) (ap (N.feed_all g (N.Reading N.no_wire [])) e
     ∙ N.read_to_end _ _ _ _ _ m) (N.told g _ _))).2).1 in
-    grind (arith, no_end)
-  where
-    no_end : (place : N.WirePlace) → place ≡ N.AfterLast → N.wire_end place ≡ Some fault → ⊥
-    no_end N.BeforeHeader e h = cc
-    no_end (N.BeforeBody header) e h = cc
-    no_end N.AfterLast e h = cc
+    grind arith
 
 -- ---- no stop of an accepted response is one of the input
 

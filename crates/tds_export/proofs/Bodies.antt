@@ -6,7 +6,7 @@ use N.{response, true, Charset, View, Ends}
 use N.TokenSteps.{OpenTexts, bare_reads, quietly, stops_quietly, ReadsQuiet, StopsQuiet}
 use N.TokenLaws.{first_next, first_stays, no_errors, tracks_error, tracks_info, tracks_returned, bare_body, tracks_body}
 use N.ResponseLaws.{Agrees, info_is_read, return_name_is_read, value_agrees, read_inside, stop_inside, part_cut, fill_cut, return_agrees, body_free}
-use N.ResponseLaws.{body_is_read, length_free}
+use N.ResponseLaws.{body_is_read}
 
 -- a text as far as it fits stays within the room
 pub within_room : {s : Space} (text : List ℕ) → s.bytes ≡ [] → s.peak ≤ s.room → (N.appended s (N.whole_within (s.room - length s.bytes) text)).peak ≤ s.room
@@ -17,44 +17,7 @@ in_body_holds : {area : Space} {tokens : List Token} {which : Bodied} (at : N.Pa
     → (N.text_so_far (in_length which tokens) ≡ N.text_so_far at) × N.IsHolding area at
 in_body_holds = grind arith
 
--- the ERRORs so far are counted
-errors_are : {s : N.Progress} {tokens : List Token} → N.TracksBefore s tokens → s.report.errors ≡ N.how_many N.is_error tokens
-errors_are = grind arith
-
-module _ (charset : Charset) {tokens : List Token} {s : N.Progress} {u : View} {b : PayloadView} (begun : OpenTexts tokens s u) where
-  -- a notice is cut or refused
-  pub notice_stops : {which : Bodied} {stop : Stop} → N.StopsInNotice charset u.area.room tokens which u.seen b u.place stop
-      → StopsQuiet charset (in_length which tokens) u b stop
-  notice_stops x = let there = in_body_holds _ begun.holds x.in_body in grind (arith, stops_quietly)
-
-  module _ {place : ℕ} {body : List ℕ} where
-    -- an INFO was read
-    pub info_reads : N.ReadsNotice charset u.area.room tokens N.AnInfo u.seen b u.place place body
-        → ReadsQuiet charset (in_length N.AnInfo tokens) tokens u b place (record s { report = record s.report { infos = s.report.infos + 1 } })
-    info_reads x = quietly begun refl (bare_reads begun _ x.reads x.place_is refl refl (tracks_info begun.tracks _))
-
-    abbrev error_reads : {first : N.Option N.ServerError} → first ≡ N.option_map N.server_error (first_error (tokens ++ N.Error (notice_of body) ∷ []))
-        → N.ReadsNotice charset u.area.room tokens AnError u.seen b u.place place body
-        → N.ReadsTokens (response charset u.area.room) (in_length AnError tokens) tokens u.seen b u.place place u.held u.held
-        (record s { report = record s.report { errors = s.report.errors + 1; first_error = first } }) u.area
-    error_reads is x = bare_reads begun (N.Error (notice_of body)) x.reads x.place_is refl refl (tracks_error begun.tracks _ is)
-
-    -- the first ERROR was read, and its message noted
-    pub first_error_reads : (cleared : Space) {after : Space} → s.report.errors ≡ 0 → cleared.bytes ≡ [] → cleared.room ≡ 512
-        → after ≡ N.appended cleared (N.whole_within (cleared.room - length cleared.bytes) (N.characters (notice_of body).message))
-        → N.ReadsNotice charset u.area.room tokens AnError u.seen b u.place place body
-        → N.ReadsNext charset (in_length AnError tokens) tokens u (record u { seen = b; place = place; notice = after })
-        (record s { report = record s.report { errors = s.report.errors + 1; first_error = Some (N.server_error (notice_of body)) } })
-    first_error_reads cleared {after} none no_bytes room_is put x =
-        let first = first_next tokens (notice_of body) (grind (arith, no_errors, errors_are)) in
-        (error_reads (cc) x, cc)
-
-    -- a later ERROR was read
-    pub later_error_reads : 0 < s.report.errors → N.ReadsNotice charset u.area.room tokens AnError u.seen b u.place place body
-        → ReadsQuiet charset (in_length AnError tokens) tokens u b place (record s { report = record s.report { errors = s.report.errors + 1 } })
-    later_error_reads = grind (arith, first_stays, errors_are, error_reads)
-
--- ---- rETURNVALUE as it is read, and in its response
+-- ---- RETURNVALUE as it is read, and in its response
 
 module _ {s t : N.ReturnPart} {a b c : PayloadView} {place middle : ℕ} (x : ReadsReturn s t a b place middle) where
   -- what stops a call stops one that began before it
@@ -157,19 +120,6 @@ open_return : {area : Space} {tokens : List Token} (p : N.ReturnPart) → 0 < N.
     → (N.text_so_far (N.in_return tokens) ≡ N.text_so_far (N.with_return tokens p)) × N.IsHolding area (N.with_return tokens p)
 open_return = grind arith
 
-module _ (charset : Charset) {tokens : List Token} {s : N.Progress} {u : View} {b : PayloadView} (begun : OpenTexts tokens s u) where
-  -- a return value stopped the call
-  pub return_stops : {stop : Stop} → N.StopsReturn N.ReturnOrdinal u.seen b u.place stop → StopsQuiet charset (N.in_return tokens) u b stop
-  return_stops x =
-      let there = open_return _ (grind arith) begun.holds in
-      stops_quietly there.0 there.1 begun.delivered begun.going (stop_inside (return_agrees _ _ _) x.stops)
-
-  -- a return value was read
-  pub return_reads : {place : ℕ} → N.ReadsValue u.seen b u.place place
-      → ReadsQuiet charset (N.in_return tokens) tokens u b place (record s { report = record s.report { return_values = s.report.return_values + 1 } })
-  return_reads x =
-      quietly begun refl (bare_reads begun _ (read_inside (return_agrees _ _ _) x.steps.reads) x.steps.place_is refl refl (tracks_returned begun.tracks _))
-
 -- ---- tokens with a Length and a body, as they are read
 
 -- before the body of a token
@@ -183,18 +133,14 @@ pub record LengthRead (element : List ℕ) (n : ℕ) (a b : PayloadView) (place 
   pub takes : Takes a b element (length element)
   pub at : middle ≡ place + length element
 
--- the Length as a number
-pub number_is : {element : List ℕ} {n place middle : ℕ} {a b : PayloadView} → LengthRead element n a b place middle → N.little element ≡ n
-number_is = grind arith
-
 module _ (charset : Charset) (room : ℕ) {n place middle : ℕ} {tokens : List Token} {which : Bodied} {element : List ℕ} {a b c : PayloadView}
     (l : LengthRead element n a b place middle) (long : is_notice which ≡ true → 14 ≤ n) where
   -- what stops the reading of the body
   after_length : {stop : Stop} → 0 < n → N.StopsReading (response charset room) (in_body which tokens n) b c middle (in_body which tokens n) stop
       → N.StopsReading (response charset room) (in_length which tokens) a c place (in_body which tokens n) stop
   after_length {stop} some stops =
-      let to : (response charset room).add (in_length which tokens) element ≡ in_body which tokens n = grind (arith, number_is, N.choose_false, N.ne_eqb) in
-      N.stops_after _ _ _ a b c _ _ _ (reads_one _ _ a b _ _ (record { some = omega arith; whole = l.two; free = grind (arith, length_free, number_is) })
+      let to : (response charset room).add (in_length which tokens) element ≡ in_body which tokens n = grind (arith, N.choose_false, N.ne_eqb) in
+      N.stops_after _ _ _ a b c _ _ _ (reads_one _ _ a b _ _ (record { some = omega arith; whole = l.two; free = grind arith })
       l.takes to) (rw l.at at stops)
 
   -- the body was read
@@ -202,29 +148,13 @@ module _ (charset : Charset) (room : ℕ) {n place middle : ℕ} {tokens : List 
       → N.Reads (response charset room) (in_length which tokens) a c (N.with_token tokens (N.bodied which body))
   body_reads body len takes holds = record {
     bytes = element ++ body;
-    spelt = body_is_read _ _ _ _ l.two (number_is l ∙ sym len) (length_free room tokens _ _ long (number_is l)) (body_free _ body holds);
+    spelt = body_is_read _ _ _ _ l.two (grind arith) (grind arith) (body_free _ body holds);
     takes = N.takes_both a b c _ _ l.takes (rw len takes);
   }
 
 -- no token is a notice and isn't one
 no_notice : {P : Type 0} (which : Bodied) → is_notice which ≡ false → is_notice which ≡ true → P
 no_notice = grind arith
-
-module _ (charset : Charset) {n middle : ℕ} {tokens : List Token} {which : Bodied} {element : List ℕ} {s : N.Progress} {u : View} {b c : PayloadView}
-    (begun : OpenTexts tokens s u) (quiet : is_notice which ≡ false) (l : LengthRead element n u.seen b u.place middle) where
-  -- a body of which nothing is kept was read
-  pub quiet_reads : {place : ℕ} (body : List ℕ) → length body ≡ n → Takes b c body n → place ≡ middle + n
-      → ReadsQuiet charset (in_length which tokens) tokens u c place s
-  quiet_reads body len takes at =
-      quietly begun refl (bare_reads begun _ (body_reads _ _ l (no_notice _ quiet) _ len takes (no_notice _ quiet)) (grind (arith, N.length-append)) refl
-      (bare_body _ _)
-      (tracks_body begun.tracks _ _ quiet))
-
-  -- it was cut
-  pub quiet_stops : {own stop : Stop} {part : List ℕ} → length part < n → Ends b c part own → stop ≡ N.began_at middle own
-      → StopsQuiet charset (in_length which tokens) u c stop
-  quiet_stops fewer ends is = stops_quietly refl (record { bytes = begun.holds.bytes; peak = begun.holds.peak }) begun.delivered begun.going
-      (after_length _ _ l (no_notice _ quiet) (omega arith) (part_cut refl refl fewer ends is))
 
 module _ (charset : Charset) (room : ℕ) {tokens : List Token} {which : Bodied} (notice : is_notice which ≡ true) where
   -- the Length is cut
@@ -237,7 +167,7 @@ module _ (charset : Charset) (room : ℕ) {tokens : List Token} {which : Bodied}
     -- the Length is too short
     pub length_refused : n < 14 → N.IsBetween b → N.StopsInNotice charset room tokens which a b place (record { fault = N.BadNotice; place = N.Payload place })
     length_refused short between =
-        let first : N.part_fault room tokens (N.TokenLength which) element ≡ Some N.BadNotice = grind (arith, number_is, N.test_lt) in
+        let first : N.part_fault room tokens (N.TokenLength which) element ≡ Some N.BadNotice = grind (arith, N.test_lt) in
         record { at = in_length which tokens; stops = N.refused_at_once _ _ a b _ _ _ (omega arith) l.two first l.takes between; in_body = inl refl }
 
     -- the body was read
@@ -269,3 +199,64 @@ module _ (charset : Charset) (room : ℕ) {tokens : List Token} {which : Bodied}
         pub body_taken : {place' : ℕ} → place' ≡ middle + n → N.holds_notice t.element ≡ true
             → N.ReadsNotice charset room tokens which a c place place' t.element
         body_taken at holds = body_passed long t.element t.whole t.takes at holds
+
+-- ---- what a run makes of them
+
+module _ (charset : Charset) {tokens : List Token} {s : N.Progress} {u : View} {b : PayloadView} (begun : OpenTexts tokens s u) where
+  -- a notice is cut or refused
+  pub notice_stops : {which : Bodied} {stop : Stop} → N.StopsInNotice charset u.area.room tokens which u.seen b u.place stop
+      → StopsQuiet charset (in_length which tokens) u b stop
+  notice_stops x = let there = in_body_holds _ begun.holds x.in_body in grind (arith, stops_quietly)
+
+  -- an INFO was read
+  pub info_reads : {place : ℕ} {body : List ℕ} → N.ReadsNotice charset u.area.room tokens N.AnInfo u.seen b u.place place body
+      → ReadsQuiet charset (in_length N.AnInfo tokens) tokens u b place (record s { report = record s.report { infos = s.report.infos + 1 } })
+  info_reads x = quietly begun refl (bare_reads begun _ x.reads x.place_is refl refl (tracks_info begun.tracks _))
+
+  module _ {place : ℕ} {body : List ℕ} (x : N.ReadsNotice charset u.area.room tokens AnError u.seen b u.place place body) where
+    abbrev error_reads : {first : N.Option N.ServerError} → first ≡ N.option_map N.server_error (first_error (tokens ++ N.Error (notice_of body) ∷ []))
+        → N.ReadsTokens (response charset u.area.room) (in_length AnError tokens) tokens u.seen b u.place place u.held u.held
+        (record s { report = record s.report { errors = s.report.errors + 1; first_error = first } }) u.area
+    error_reads is = bare_reads begun (N.Error (notice_of body)) x.reads x.place_is refl refl (tracks_error begun.tracks _ is)
+
+    -- the first ERROR was read, and its message noted
+    pub first_error_reads : (cleared : Space) {after : Space} → s.report.errors ≡ 0 → cleared.bytes ≡ [] → cleared.room ≡ 512
+        → after ≡ N.appended cleared (N.whole_within (cleared.room - length cleared.bytes) (N.characters (notice_of body).message))
+        → N.ReadsNext charset (in_length AnError tokens) tokens u (record u { seen = b; place = place; notice = after })
+        (record s { report = record s.report { errors = s.report.errors + 1; first_error = Some (N.server_error (notice_of body)) } })
+    first_error_reads cleared {after} none no_bytes room_is put =
+        let first = first_next tokens (notice_of body) (grind (arith, no_errors)) in
+        (error_reads (cc), cc)
+
+    -- a later ERROR was read
+    pub later_error_reads : 0 < s.report.errors
+        → ReadsQuiet charset (in_length AnError tokens) tokens u b place (record s { report = record s.report { errors = s.report.errors + 1 } })
+    later_error_reads = grind (arith, first_stays, error_reads)
+
+  -- a return value stopped the call
+  pub return_stops : {stop : Stop} → N.StopsReturn N.ReturnOrdinal u.seen b u.place stop → StopsQuiet charset (N.in_return tokens) u b stop
+  return_stops x =
+      let there = open_return _ (grind arith) begun.holds in
+      stops_quietly there.0 there.1 begun.delivered begun.going (stop_inside (return_agrees _ _ _) x.stops)
+
+  -- a return value was read
+  pub return_reads : {place : ℕ} → N.ReadsValue u.seen b u.place place
+      → ReadsQuiet charset (N.in_return tokens) tokens u b place (record s { report = record s.report { return_values = s.report.return_values + 1 } })
+  return_reads x =
+      quietly begun refl (bare_reads begun _ (read_inside (return_agrees _ _ _) x.steps.reads) x.steps.place_is refl refl (tracks_returned begun.tracks _))
+
+  module _ {n middle : ℕ} {which : Bodied} {element : List ℕ} {c : PayloadView} (quiet : is_notice which ≡ false)
+      (l : LengthRead element n u.seen b u.place middle) where
+    -- a body of which nothing is kept was read
+    pub quiet_reads : {place : ℕ} (body : List ℕ) → length body ≡ n → Takes b c body n → place ≡ middle + n
+        → ReadsQuiet charset (in_length which tokens) tokens u c place s
+    quiet_reads body len takes at =
+        quietly begun refl (bare_reads begun _ (body_reads _ _ l (no_notice _ quiet) _ len takes (no_notice _ quiet)) (grind (arith, N.length-append)) refl
+        (bare_body _ _)
+        (tracks_body begun.tracks _ _ quiet))
+
+    -- it was cut
+    pub quiet_stops : {own stop : Stop} {part : List ℕ} → length part < n → Ends b c part own → stop ≡ N.began_at middle own
+        → StopsQuiet charset (in_length which tokens) u c stop
+    quiet_stops fewer ends is = stops_quietly refl (record { bytes = begun.holds.bytes; peak = begun.holds.peak }) begun.delivered begun.going
+        (after_length _ _ l (no_notice _ quiet) (omega arith) (part_cut refl refl fewer ends is))

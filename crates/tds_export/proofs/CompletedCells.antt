@@ -4,18 +4,12 @@ use N.{Bool, Cell, CellPart, ChunkData, ChunkLength, Column, Conversion, Decimal
 use N.{WholeCell, WholeRow, Windows1252, [], ap, arith, before, begun, bit, cell, choose, false, is_valid, le_true, length, marked, nat_le, refl, row, suc, sym}
 use N.{true, unit, zero, zeros, ℕ, ⊤, ◌%◌, ◌&&◌, ◌++◌, ◌+◌, ◌<◌, ◌∙◌, ◌∷◌, ◌≡◌, ◌≤◌}
 use N.ResponseLaws.{spelt_both, spelt_one}
-use N.SomeBytes.{exactly, little_below, one_of_four, one_of_two}
+use N.SomeBytes.{exactly, little_below, one_of_four}
 
 -- the conversions that Windows-1252 names: none judges data before its end
 abbrev pub is_plain : Conversion → Bool
 is_plain N.Utf8Text = false
 is_plain c = true
-
-plain_begun : (c : Conversion) (b : List ℕ) → is_plain c ≡ true → N.is_begun c b ≡ true
-plain_begun = grind arith
-
-plain_fit : (c : Conversion) (b : List ℕ) → is_plain c ≡ true → length b % unit c ≡ 0 → N.is_fit c b ≡ true
-plain_fit = grind arith
 
 -- a known total is of whole units, and the sum may still become it
 abbrev pub HoldsTotal : Conversion → Option ℕ → ℕ → Type 0
@@ -52,14 +46,11 @@ are_read kind n = N.is_ok (N.read_of kind (zeros n))
 abbrev ZerosAre : Kind → ℕ → Type 0
 ZerosAre kind n = are_read kind n ≡ true
 
-zero_decimal : (d p s n : ℕ) → is_valid (Decimal d p s) ≡ true → N.is_length_allowed (Decimal d p s) n ≡ true → ZerosAre (Decimal d p s) n
-zero_decimal d p s n valid allowed = grind (arith, N.and_parts, N.test_le, le_true)
-
 zeros_are_a_value : (kind : Kind) (n : ℕ) → is_valid kind ≡ true → N.is_scalar kind ≡ true → N.is_length_allowed kind n ≡ true → ZerosAre kind n
 zeros_are_a_value (N.IntN d) n v s h = grind (arith, exactly, one_of_four)
 zeros_are_a_value N.BitN n v s h = grind (arith, exactly)
-zeros_are_a_value (N.MoneyN d) n v s h = grind (arith, exactly, one_of_two)
-zeros_are_a_value (N.DateTimeN d) n v s h = grind (arith, exactly, one_of_two)
+zeros_are_a_value (N.MoneyN d) n v s h = grind (arith, exactly)
+zeros_are_a_value (N.DateTimeN d) n v s h = grind (arith, exactly)
 zeros_are_a_value N.Guid n v s h = grind (arith, exactly)
 zeros_are_a_value (Decimal d p sc) n v s h = grind arith
 zeros_are_a_value N.Date n v s h = grind (arith, exactly)
@@ -80,41 +71,37 @@ zeros_next = grind arith
 within : (total : Option ℕ) (m k : ℕ) → N.is_total total m ≡ true → k ≤ m → N.within_total total k ≡ true
 within = grind arith
 
--- one zero byte where the sum is odd makes it even
-made_even : (c : Conversion) (n : ℕ) → (n + n % unit c) % unit c ≡ 0
-made_even c n = grind arith
-
 module _ (column : ℕ) where
   -- the rest of a short value
   short_ends : (c : Conversion) (left : ℕ) (content : List ℕ) → CellReached (ShortData c left content) → (x : Cell)
       × Spelt (cell column) (ShortData c left content) (zeros (left + 1)) (WholeCell x)
   short_ends c zero content (plain, even) = (
     N.DataCell c (content ++ 0 ∷ []),
-    spelt_one (omega arith) refl (grind (arith, plain_begun, plain_fit, N.length-append)) refl,
+    spelt_one (omega arith) refl (grind (arith, N.length-append)) refl,
   )
   short_ends c (suc left) content (plain, even) =
       let to : N.cell_add (ShortData c (suc left) content) (0 ∷ []) ≡ ShortData c left (content ++ 0 ∷ []) = grind arith in
       let same : length (content ++ 0 ∷ []) + (left + 1) ≡ length content + (suc left + 1) = grind (arith, N.length-append) in
       let more = short_ends c left (content ++ 0 ∷ []) (plain, cc) in (
         more.0,
-        rw (← zeros_next left) (spelt_both (spelt_one (omega arith) refl (grind (arith, plain_begun, N.test_lt)) to) more.1),
+        rw (← zeros_next left) (spelt_both (spelt_one (omega arith) refl (grind (arith, N.test_lt)) to) more.1),
       )
 
   -- the rest of a chunk
   chunk_ends : {c : Conversion} {total : Option ℕ} (left : ℕ) {content : List ℕ} → is_plain c ≡ true
       → Spelt (cell column) (ChunkData c total left content) (zeros (left + 1)) (ChunkLength c total (content ++ zeros (left + 1)))
-  chunk_ends {c} zero {content} plain = spelt_one (omega arith) refl (grind (arith, plain_begun)) refl
+  chunk_ends {c} zero {content} plain = spelt_one (omega arith) refl (grind arith) refl
   chunk_ends {c} {total} (suc left) {content} plain =
       let to : N.cell_add (ChunkData c total (suc left) content) (0 ∷ []) ≡ ChunkData c total left (content ++ 0 ∷ []) = grind arith in
       rw (← zeros_next left, ← N.append_assoc content (0 ∷ []) (zeros (left + 1)))
-      (spelt_both (spelt_one (omega arith) refl (grind (arith, plain_begun)) to) (chunk_ends _ plain))
+      (spelt_both (spelt_one (omega arith) refl (grind arith) to) (chunk_ends _ plain))
 
   -- so many chunks of one zero byte, and the terminator
   chunks_end : {c : Conversion} {total : Option ℕ} (n : ℕ) {content : List ℕ} → is_plain c ≡ true → N.is_total total (length content + n) ≡ true
       → (length content + n) % unit c ≡ 0 → (x : Cell) × Spelt (cell column) (ChunkLength c total content) (N.zero_chunks n ++ N.terminator) (WholeCell x)
   chunks_end {c} zero {content} plain all even =
       let same : length content + 0 ≡ length content = omega arith in
-      (N.DataCell c content, spelt_one (omega arith) refl (grind (arith, plain_fit)) refl)
+      (N.DataCell c content, spelt_one (omega arith) refl (grind arith) refl)
   chunks_end {c} {total} (suc n) {content} plain all even =
       let same : length content + suc n ≡ length (content ++ 0 ∷ []) + n = grind (arith, N.length-append) in
       let one : Spelt (cell column) (ChunkLength c total content) (1 ∷ 0 ∷ 0 ∷ 0 ∷ []) (ChunkData c total 0 content) =
@@ -125,7 +112,7 @@ module _ (column : ℕ) where
   -- the rest of the chunks
   length_ends : {c : Conversion} (total : Option ℕ) {content : List ℕ} → is_plain c ≡ true → HoldsTotal c total (length content) → (x : Cell)
       × Spelt (cell column) (ChunkLength c total content) (N.rest_of_chunks c total (length content)) (WholeCell x)
-  length_ends {c} None plain h = chunks_end _ plain refl (made_even c _)
+  length_ends {c} None plain h = chunks_end _ plain refl (grind arith)
   length_ends (Some t) plain (le, even) = grind (arith, chunks_end, N.eq-eqb)
 
   -- A part of a cell followed by what completes it is a whole cell.
@@ -159,10 +146,6 @@ module _ (column : ℕ) where
   cell_keeps (ChunkData c total left content) are (plain, h) n = grind (arith, choose, N.eq_false, N.eq_true, N.length-append)
   cell_keeps (WholeCell x) are h n = tt
 
--- A cell of a valid kind begins so.
-pub start_reached : (kind : Kind) → is_valid kind ≡ true → CellReached (N.cell_start kind (N.shape Windows1252 kind))
-start_reached = grind arith
-
 -- the kinds of the columns are valid
 abbrev pub AreValid : List Column → Type 0
 AreValid [] = ⊤
@@ -188,9 +171,6 @@ pub marked_valid : (columns : List Column) (nulls : ℕ → Bool) (k : ℕ) → 
 marked_valid [] nulls k h = tt
 marked_valid (c ∷ cs) nulls k (v, h) = (v, marked_valid cs nulls _ h)
 
-starts_open : (kind : Kind) (sh : N.Shape) → IsOpenCell (N.cell_start kind sh)
-starts_open = grind arith
-
 pub next_reached : (cells : List Cell) (ks : List (Column × Bool)) → AreMarkedValid ks → RowReached (N.next_cell Windows1252 cells ks)
 next_reached cells [] h = tt
 next_reached cells ((k, true) ∷ ks) (v, h) = next_reached _ ks h
@@ -200,25 +180,24 @@ next_reached cells ((k, false) ∷ ks) (v, h) = grind arith
 pub row_keeps : {p : N.RowPart} {e : List ℕ} → N.AreBytes e → RowReached p → N.IsNext (row Windows1252) p e → RowReached (N.row_add Windows1252 p e)
 row_keeps = grind (arith, cell_keeps, marked_valid, next_reached)
 
+-- the rest of a row, up to its end
+abbrev Ends : N.RowPart → List ℕ → Type 0
+Ends p rest = (cells : List Cell) × Spelt (row Windows1252) p rest (WholeRow cells)
+
 -- the cell that is read, and those to come
 part_ends : (before : List Cell) (part : CellPart) (ks : List (Column × Bool)) → CellReached part
-    → ((b : List Cell) → (cells : List Cell) × Spelt (row Windows1252) (N.next_cell Windows1252 b ks) (N.rest_of_cells ks) (WholeRow cells))
-    → (cells : List Cell) × Spelt (row Windows1252) (N.with_cell Windows1252 before ks part) (N.rest_of_cell part ++ N.rest_of_cells ks) (WholeRow cells)
+    → ((b : List Cell) → Ends (N.next_cell Windows1252 b ks) (N.rest_of_cells ks))
+    → Ends (N.with_cell Windows1252 before ks part) (N.rest_of_cell part ++ N.rest_of_cells ks)
 part_ends before part ks h next =
     let one = cell_ends _ _ h in
     let more = next (before ++ one.0 ∷ []) in
     (more.0, spelt_both (N.Inside-Spelt _ _ _ (N.cell_in_row Windows1252 _ _) _ _ _ one.1) more.1)
 
 -- the cells to come
-cells_end : (before : List Cell) (ks : List (Column × Bool)) → AreMarkedValid ks → (cells : List Cell)
-    × Spelt (row Windows1252) (N.next_cell Windows1252 before ks) (N.rest_of_cells ks) (WholeRow cells)
+cells_end : (before : List Cell) (ks : List (Column × Bool)) → AreMarkedValid ks → Ends (N.next_cell Windows1252 before ks) (N.rest_of_cells ks)
 cells_end before [] h = (before, N.Spelt-none _ _)
 cells_end before ((k, true) ∷ ks) (v, h) = cells_end (before ++ Null ∷ []) ks h
 cells_end before ((k, false) ∷ ks) (v, h) = rw (← N.begins_open Windows1252 before ks k.kind _) (part_ends before _ ks (grind arith) (λ b. cells_end b ks h))
-
-stays_open : {cells : List Cell} {ks : List (Column × Bool)} {part : CellPart} → IsOpenCell part
-    → N.with_cell Windows1252 cells ks part ≡ N.InCell cells part ks
-stays_open h = grind arith
 
 zero_at : (n i : ℕ) → N.slice_index (zeros n) i ≡ 0
 zero_at zero i = refl
@@ -243,5 +222,6 @@ row_ends (N.Bitmap columns) (some, h) =
     let clear = marked_clear _ _ 0 (clear_at n) in
     let more = cells_end _ _ (N.subst AreMarkedValid clear (marked_valid _ _ 0 h)) in
     (more.0, spelt_both (rw clear at one) more.1)
-row_ends (N.InCell cells part ks) (begun, h, m) = rw (← stays_open begun) (part_ends _ _ _ h (λ b. cells_end b _ m))
+row_ends (N.InCell cells part ks) (begun, h, m) =
+    N.subst (λ p. Ends p (N.rest_of_cell part ++ N.rest_of_cells ks)) (grind arith) (part_ends cells part ks h (λ b. cells_end b _ m))
 row_ends (WholeRow cells) h = (cells, N.Spelt-none _ _)

@@ -32,17 +32,13 @@ AreValid-append [] c h v = (v, tt)
 AreValid-append (d ∷ cs) c h v = (h.0, AreValid-append cs c h.1 v)
 
 module _ (room : ℕ) where
-  column_reached : (bytes : List ℕ) {count : ℕ} (cols : List Column) (c : Column) → length cols < count → AreValid cols → N.is_valid c.kind ≡ true
-      → length bytes + 8 * (count - (length cols + 1)) ≤ room → DescribedReached room (N.with_column bytes count cols c)
-  column_reached = grind (arith, AreValid-append, N.choose, N.eq_false, N.length-append)
-
   -- Each element keeps what is known.
   pub described_keeps : {d : N.DescriptionPart} {e : List ℕ} → N.AreBytes e → DescribedReached room d → N.IsNext (N.description room) d e
       → DescribedReached room (N.add_described d e)
   described_keeps = grind (
     arith,
     N.choose,
-    column_reached,
+    AreValid-append,
     N.eq_false,
     N.known_type,
     N.bare_type,

@@ -8,7 +8,7 @@ use N.CompletedReturns.{ReturnReached, return_ends, return_keeps}
 use N.CompletedCells.{RowReached, AreValid, marked_valid, next_reached, row_ends, row_keeps}
 use N.LeastTypes.{least_type}
 use N.ResponseMeaning.{response_is_spelt}
-use N.ResponseLaws.{spelt_both, spelt_one, body_free, body_is_read, described_after-append, length_free, some_fields, description_agrees, row_agrees}
+use N.ResponseLaws.{spelt_both, spelt_one, body_free, body_is_read, described_after-append, description_agrees, row_agrees}
 use N.ResponseLaws.{return_agrees, part_at, spelt_inside}
 use N.TokenLaws.{bare, bare_body, bare_fixed, is_bare, is_final-snoc}
 
@@ -54,24 +54,14 @@ AreBytes-cells ((k, false) ∷ ks) = AreBytes-append _ _ (grind (arith, AreBytes
 AreBytes-head : AreBytes N.rest_of_return_head
 AreBytes-head = grind arith
 
-AreBytes-value : (o : Option N.Kind) → AreBytes (N.rest_of_value o)
-AreBytes-value o = grind arith
-
 AreBytes-return : (p : N.ReturnPart) → ReturnReached p → AreBytes (N.rest_of_return p)
 AreBytes-return N.ReturnOrdinal h = grind (arith, AreBytes-append, AreBytes-zeros, AreBytes-head)
 AreBytes-return N.ReturnNameCount h = grind (arith, AreBytes-append, AreBytes-zeros, AreBytes-head)
 AreBytes-return (N.ReturnName n) h = AreBytes-append _ _ (AreBytes-zeros n) AreBytes-head
 AreBytes-return (N.ReturnHead name) h = AreBytes-head
-AreBytes-return (N.ReturnInfo name byte) (n, known, some) = AreBytes-append _ _ (least_type known).bytes (AreBytes-value _)
+AreBytes-return (N.ReturnInfo name byte) (n, known, some) = AreBytes-append _ _ (least_type known).bytes (grind arith)
 AreBytes-return (N.InReturnCell name kind part) h = AreBytes-cell part
 AreBytes-return (N.WholeReturn r) h = tt
-
-AreBytes-token : (room : ℕ) (at : Open) → OpenReached room at → AreBytes (N.rest_of_token at)
-AreBytes-token = grind (arith, least_type, AreBytes-int, AreBytes-ints, AreBytes-return, AreBytes-append, AreBytes-cell, AreBytes-cells, AreBytes-zeros)
-
--- What completes a part that bytes led to are bytes.
-AreBytes-completion : (room : ℕ) (p : Part) → OpenReached room p.at → AreBytes (N.completion p)
-AreBytes-completion = grind (arith, AreBytes-append, AreBytes-token)
 
 -- the columns that are described are some, of valid kinds
 abbrev CurrentReached : Option (List Column) → Type 0
@@ -87,41 +77,23 @@ zeros_hold : (n : ℕ) → 14 ≤ n → N.holds_notice (zeros n) ≡ true
 zeros_hold = grind (arith, N.common_steps, N.test_le, N.test_lt)
 
 module _ (room : ℕ) where
-  -- a token that describes nothing
-  token_reached : (tokens : List Token) (t : Token) → ((c : Option (List Column)) → described_after c (t ∷ []) ≡ c)
-      → CurrentReached (described_after None tokens) → PartReached room (N.with_token tokens t)
-  token_reached = grind (arith, described_after-append)
-
   bare_reached : (tokens : List Token) (t : Token) → is_bare t ≡ true → CurrentReached (described_after None tokens) → PartReached room (N.with_token tokens t)
-  bare_reached = grind (arith, token_reached, bare)
-
-  described_reached : (tokens : List Token) (d : N.DescriptionPart) → CurrentReached (described_after None tokens) → DescribedReached room d
-      → PartReached room (N.with_described tokens d)
-  described_reached = grind (arith, described_after-append)
-
-  row_reached : (tokens : List Token) (part : N.RowPart) → CurrentReached (described_after None tokens) → RowReached part
-      → PartReached room (N.with_row tokens part)
-  row_reached = grind (arith, token_reached)
+  bare_reached = grind (arith, described_after-append, bare)
 
   return_reached : (tokens : List Token) (part : N.ReturnPart) → CurrentReached (described_after None tokens) → ReturnReached part
       → PartReached room (N.with_return tokens part)
   return_reached = grind (arith, bare_reached)
 
-  row_starts : (tokens : List Token) (start : List Column → N.RowPart)
-      → ((columns : List Column) → (0 < length columns) × AreValid columns → RowReached (start columns)) → (current : Option (List Column))
-      → described_after None tokens ≡ current → CurrentReached current → PartReached room (N.start_of_row tokens start current)
-  row_starts = grind (arith, row_reached)
-
   lead_reached : (tokens : List Token) (begun : Option N.Lead) → CurrentReached (described_after None tokens)
       → PartReached room (N.after_first Windows1252 tokens begun)
-  lead_reached = grind (arith, marked_valid, next_reached, row_starts)
+  lead_reached = grind (arith, marked_valid, next_reached, described_after-append)
 
   -- Each element keeps what is known.
   open_keeps : {tokens : List Token} (at : Open) {e : List ℕ} → AreBytes e → CurrentReached (described_after None tokens) → OpenReached room at
       → N.IsNext (response Windows1252 room) (part_at tokens at) e → PartReached room (N.part_add Windows1252 tokens at e)
   open_keeps {tokens} N.Between are h o n = lead_reached tokens _ h
-  open_keeps (N.Describing d) {e} are h (begun, r) n = grind (arith, described_reached, described_keeps)
-  open_keeps (InRow part) {e} are h (begun, r) n = grind (arith, row_reached, row_keeps)
+  open_keeps (N.Describing d) {e} are h (begun, r) n = grind (arith, described_after-append, described_keeps)
+  open_keeps (InRow part) {e} are h (begun, r) n = grind (arith, described_after-append, row_keeps)
   open_keeps (N.InReturn part) {e} are h (begun, r) n = grind (arith, return_reached, return_keeps)
   open_keeps (N.TokenLength b) are h o n = grind (arith, bare_body, bare_reached, N.choose, N.eq_false, N.nat_tests)
   open_keeps {tokens} (N.TokenBody b m) {e} are h o n = bare_reached tokens _ (bare_body b e) h
@@ -134,32 +106,35 @@ module _ (room : ℕ) where
   abbrev Ends : List Token → Open → List ℕ → Type 0
   Ends tokens at rest = (ts : List Token) × Spelt (response Windows1252 room) (part_at tokens at) rest (N.after_tokens ts)
 
-  described_opens : (tokens : List Token) (d : N.DescriptionPart) → IsOpenDescription d → N.with_described tokens d ≡ part_at tokens (N.Describing d)
-  described_opens = grind arith
-
-  row_opens : (tokens : List Token) (part : N.RowPart) → IsOpenRow part → N.with_row tokens part ≡ part_at tokens (InRow part)
-  row_opens = grind arith
-
-  return_opens : (tokens : List Token) (part : N.ReturnPart) → IsOpenReturn part → N.with_return tokens part ≡ part_at tokens (N.InReturn part)
-  return_opens = grind arith
-
   -- The rest of the token that is read ends it.
   token_ends : 10 ≤ room → (tokens : List Token) (at : Open) → OpenReached room at → Ends tokens at (N.rest_of_token at)
   token_ends ten tokens N.Between o = (tokens, N.Spelt-none _ _)
   token_ends ten tokens (N.Describing d) (begun, r) =
       let all = described_ends _ ten d begun r in
-      (tokens ++ N.Metadata all.0 all.1 ∷ [], rw (← described_opens tokens d begun) (spelt_inside (description_agrees Windows1252 _ _) all.2))
+      let to = tokens ++ N.Metadata all.0 all.1 ∷ [] in (
+        to,
+        N.subst (λ p. Spelt (response Windows1252 room) p (N.rest_of_description d) (N.after_tokens to)) (grind arith)
+            (spelt_inside (description_agrees Windows1252 _ tokens) all.2),
+      )
   token_ends ten tokens (InRow part) (begun, r) =
       let all = row_ends _ r in
-      (tokens ++ N.Row all.0 ∷ [], rw (← row_opens tokens part begun) (spelt_inside (row_agrees Windows1252 _ _) all.1))
+      let to = tokens ++ N.Row all.0 ∷ [] in (
+        to,
+        N.subst (λ p. Spelt (response Windows1252 room) p (N.rest_of_row part) (N.after_tokens to)) (grind arith)
+            (spelt_inside (row_agrees Windows1252 _ tokens) all.1),
+      )
   token_ends ten tokens (N.InReturn part) (begun, r) =
       let all = return_ends _ r in
-      (tokens ++ N.Returned all.0 ∷ [], rw (← return_opens tokens part begun) (spelt_inside (return_agrees Windows1252 _ _) all.1))
+      let to = tokens ++ N.Returned all.0 ∷ [] in (
+        to,
+        N.subst (λ p. Spelt (response Windows1252 room) p (N.rest_of_return part) (N.after_tokens to)) (grind arith)
+            (spelt_inside (return_agrees Windows1252 _ tokens) all.1),
+      )
   token_ends ten tokens (N.TokenLength (N.APassed passed)) o =
       (tokens ++ N.PassedOver passed [] ∷ [], body_is_read Windows1252 _ (zeros 2) _ refl refl refl refl)
   token_ends ten tokens (N.TokenLength b) o = (
     tokens ++ N.bodied b (zeros 14) ∷ [],
-    body_is_read Windows1252 _ (14 ∷ 0 ∷ []) (zeros 14) refl refl (grind (arith, length_free)) grind (arith, body_free, zeros_hold),
+    body_is_read Windows1252 _ (14 ∷ 0 ∷ []) (zeros 14) refl refl (grind arith) grind (arith, body_free, zeros_hold),
   )
   token_ends ten tokens (N.TokenBody b n) (some, long) =
       let l : length (zeros n) ≡ n = N.length-replicate n 0 in
@@ -179,6 +154,8 @@ can_be_completed room part bytes ten are h =
     let r = part_reached _ are h in
     let end = token_ends _ ten _ _ r.1 in (
       end.0 ++ Done false ∷ [],
-      response_is_spelt _ _ (AreBytes-append _ _ are (AreBytes-completion _ part r.1)) (is_final-snoc end.0 (Done false))
+      response_is_spelt _ _ (AreBytes-append _ _ are
+          (grind (arith, AreBytes-append, least_type, AreBytes-int, AreBytes-ints, AreBytes-return, AreBytes-cell, AreBytes-cells, AreBytes-zeros)))
+          (is_final-snoc end.0 (Done false))
           (spelt_both h (spelt_both end.1 (done_ends _ _))),
     )

@@ -2,8 +2,8 @@
 use Rattle.tds_export.proofs as N
 use N.{Guid, Kind, List, None, Some, Spelt, [], ap, arith, begun, if◌then◌else◌, more, refl, true, ℕ, ◌++◌, ◌<◌, ◌∷◌, ◌≡◌, ⊤}
 use N.Words.{return_value, named_kind, rest_length}
-use N.CompletedCells.{CellReached, cell_ends, cell_keeps, start_reached, IsOpenCell}
-use N.ResponseLaws.{accepted, spelt_inside, value_agrees, spelt_both, spelt_one}
+use N.CompletedCells.{CellReached, cell_ends, cell_keeps, IsOpenCell}
+use N.ResponseLaws.{spelt_inside, value_agrees, spelt_both, spelt_one}
 use N.LeastTypes.{least_type}
 
 -- what is known of a part of a return value that bytes led to
@@ -13,18 +13,12 @@ ReturnReached (N.ReturnInfo name byte) = (n : ℕ) × (rest_length byte ≡ Some
 ReturnReached (N.InReturnCell name kind part) = IsOpenCell part × CellReached part
 ReturnReached part = ⊤
 
-value_reached : (name : List ℕ) (kind : Kind) (part : N.CellPart) → CellReached part → ReturnReached (N.with_value name kind part)
-value_reached = grind arith
-
-kind_reached : (name : List ℕ) {kind : Kind} {o : N.Option Kind} → o ≡ Some kind → N.is_valid kind ≡ true → ReturnReached (N.with_return_kind name o)
-kind_reached = grind arith
-
 -- Each element keeps what is known.
 pub return_keeps : (p : N.ReturnPart) {e : List ℕ} → N.AreBytes e → ReturnReached p → N.IsNext return_value p e → ReturnReached (N.return_add p e)
 return_keeps N.ReturnNameCount are h n = grind arith
 return_keeps (N.ReturnHead name) are h n = grind arith
-return_keeps (N.ReturnInfo name byte) {e} are h n = grind (arith, N.is_some_value, kind_reached)
-return_keeps (N.InReturnCell name kind part) {e} are (begun, h) n = grind (arith, value_reached, cell_keeps)
+return_keeps (N.ReturnInfo name byte) {e} are h n = grind (arith, N.is_some_value)
+return_keeps (N.InReturnCell name kind part) {e} are (begun, h) n = grind (arith, cell_keeps)
 return_keeps p are h n = tt
 
 -- the rest of a return value, up to its end
@@ -41,10 +35,7 @@ value_ends name kind part h =
     (record { name = name; kind = kind; value = x.0 }, spelt_inside (value_agrees _ _) x.1)
 
 kind_ends : (name : List ℕ) {kind : Kind} {o : N.Option Kind} → o ≡ Some kind → N.is_valid kind ≡ true → Ends (N.with_return_kind name o) (N.rest_of_value o)
-kind_ends name is v = rw is (value_ends _ _ _ (start_reached _ v))
-
-stays_open : {name : List ℕ} {kind : Kind} {part : N.CellPart} → IsOpenCell part → N.with_value name kind part ≡ N.InReturnCell name kind part
-stays_open h = grind arith
+kind_ends name is v = rw is (value_ends _ _ _ (grind arith))
 
 head_ends : {name : List ℕ} → Ends (N.ReturnHead name) N.rest_of_return_head
 unfolding rest_length named_kind
@@ -70,5 +61,5 @@ return_ends (N.ReturnHead name) h = head_ends
 return_ends (N.ReturnInfo name byte) (n, known, some) =
     let least = least_type known in
     then_ends {e = N.least_info byte} (spelt_one (omega arith) (cc) (grind arith) refl) (kind_ends _ least.described (grind (arith, N.valid_of)))
-return_ends (N.InReturnCell name kind part) (begun, h) = rw (← stays_open begun) (value_ends _ _ _ h)
+return_ends (N.InReturnCell name kind part) (begun, h) = N.subst (λ p. Ends p (N.rest_of_cell part)) (grind arith) (value_ends name kind part h)
 return_ends (N.WholeReturn r) h = (r, N.Spelt-none _ _)

@@ -21,13 +21,7 @@ if_payload = grind arith
 part_payload : (room : ℕ) (tokens : List N.Token) (at : N.Open) (e : List ℕ) → AtMostOfPayload (N.part_fault room tokens at e)
 part_payload room tokens at e = grind (arith, if_payload)
 
-end_payload : (tokens : List N.Token) (at : N.Open) → AtMostOfPayload (N.part_end tokens at)
-end_payload = grind arith
-
 module _ (charset : N.Charset) (room : ℕ) where
-  element_fault : (p : Part) (e : List ℕ) (fault : Fault) → (N.response charset room).fault p e ≡ Some fault → IsOfPayload fault
-  element_fault = grind (arith, part_payload)
-
   end_fault : (p : Part) (fault : Fault) → (N.response charset room).end_fault p ≡ Some fault → IsOfPayload fault
   end_fault = grind arith
 
@@ -50,7 +44,7 @@ of_none = grind arith
 reading_fault : (charset : N.Charset) (room size limit : ℕ) {failures : ℕ} {left : Option (List ℕ)} {b : N.PayloadView} {place : ℕ} (at : Part) (stop : Stop)
     → N.StopsReading (N.response charset room) N.response_start (N.begun size limit left failures) b place at stop → ReadingFault failures b.failures stop.fault
 reading_fault charset room size limit {b} at stop x = elim x.cause [
-  | inl y ↦ of_none IsOfPayload (λ h. h) (λ h. h) _ _ _ (element_fault charset _ at y.0.element stop.fault y.0.first)
+  | inl y ↦ of_none IsOfPayload (λ h. h) (λ h. h) _ _ _ (grind (arith, part_payload))
   | inr y ↦ elim y.stop_is [
     | inl z ↦ grind (arith, of_none, end_fault)
     | inr z ↦ rw (ap (λ (s : Stop). s.fault) z.1) (elim (ends_of_wire _ _ _ b y.ends) [
@@ -66,12 +60,6 @@ reading_fault charset room size limit {b} at stop x = elim x.cause [
 abbrev Blamed : N.ExportInput → N.Stopped → Type 0
 Blamed given stopped = (stopped.fault ≡ ReadFailed → N.FailsToRead given) × (stopped.fault ≡ N.WriteFailed → N.FailsToWrite given)
 
--- a failed write rose the count, and is no failed read
-by_write : (given : N.ExportInput) (stopped : N.Stopped) (stop : Stop) (middle after : N.SinkView) → stopped.fault ≡ stop.fault → stop.fault ≡ N.WriteFailed
-    → middle.failures ≡ given.before.writer.failures → after.failures ≡ N.one_more middle.failures → after.failures ≡ given.after.writer.failures
-    → Blamed given stopped
-by_write = grind arith
-
 pub blamed : {given : N.ExportInput} {stopped : N.Stopped} → N.StopsExport given stopped → Blamed given stopped
 blamed {given} {stopped} x = go x.stops
   where
@@ -86,8 +74,8 @@ blamed {given} {stopped} x = go x.stops
     go (inl (inl y)) =
         let r = reading_fault _ _ _ _ _ _ y.0.stops in
         grind arith
-    go (inl (inr y)) = grind (arith, by_write, is, ends)
-    go (inr y) = grind (arith, by_write, is, ends)
+    go (inl (inr y)) = grind (arith, is, ends)
+    go (inr y) = grind (arith, is, ends)
 
 -- ---- no device failed
 

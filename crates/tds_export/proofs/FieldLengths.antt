@@ -2,7 +2,7 @@
 use Rattle.tds_export.proofs as N
 use N.{Conversion, HexDigits, List, Ok, [], arith, choose, emit, length, true, ℕ, ◌*◌, ◌++◌, ◌+◌, ◌-◌, ◌<◌, ◌==◌, ◌^◌, ◌∷◌, ◌≡◌, ◌≤◌, ⊤}
 use N.Words.{utf16_chars}
-use N.SomeBytes.{AreBytes-drop, byte_below, little_below, one_of_four}
+use N.SomeBytes.{byte_below, little_below, one_of_four}
 use Rattle.tds_text.specs.Utf16 as utf16
 use Rattle.tds_values.specs.declared.kind.Kind.TheVariants as kinds
 
@@ -84,22 +84,13 @@ long_more c a h b = omega (arith, text_more c a h b, N.length-append (N.conversi
 
 -- ---- the text of a scalar
 
--- signed numbers of 16, 32 and 64 bits
-signed_fits : (n : ℕ) → (N.unsigned_abs (N.cast_signed N.w16 n) < 2 ^ 64) × (N.unsigned_abs (N.cast_signed N.w32 n) < 2 ^ 64)
-    × (N.unsigned_abs (N.cast_signed N.w64 n) < 2 ^ 64)
-signed_fits n = grind arith
-
 -- an integer fits
 integer_fits : (n : ℕ) (xs : List ℕ) → N.AreBytes xs → N.unsigned_abs (N.integer_of n xs) < 2 ^ 64
-integer_fits = grind (arith, byte_below, choose, signed_fits)
+integer_fits = grind (arith, byte_below, choose)
 
 -- an amount of money fits
 money_fits : (n : ℕ) (xs : List ℕ) → N.unsigned_abs (N.money_of n xs) < 2 ^ 64
 money_fits = grind arith
-
--- a magnitude fits
-magnitude_fits : (n : ℕ) (xs : List ℕ) → N.AreBytes xs → N.is_decimal_length n ≡ true → N.little_number (n - 1) xs < 2 ^ 128
-magnitude_fits = grind (arith, little_below, one_of_four)
 
 -- the numbers of a value, if there is one, fit
 abbrev AllFit : N.Option N.ScalarValue → Type 0
@@ -123,7 +114,7 @@ values_fit (kinds.MoneyN n) e h k = money_fits n e
 values_fit kinds.DateTime4 e h k = datetime_fits 4 e
 values_fit kinds.DateTime8 e h k = datetime_fits 8 e
 values_fit (kinds.DateTimeN n) e h k = datetime_fits n e
-values_fit (kinds.Decimal n precision scale) e h k = grind (arith, magnitude_fits, N.and_parts)
+values_fit (kinds.Decimal n precision scale) e h k = grind (arith, little_below, one_of_four, N.and_parts)
 values_fit kind e h k = tt
 
 -- the text of a value that is read

@@ -2,7 +2,7 @@
 use Rattle.tds_export.proofs as N
 use N.{Column, Err, List, Ok, Option, PutsPiece, Result, Sink, Stop, [], ap, arith, codes, false, joined, Bool, length, map, name_field, refl, suc, sym, take}
 use N.{true, ℕ, ◌+◌, ◌++◌, ◌<◌, ◌≤◌, ◌==◌, ◌∙◌, ◌∷◌, ◌≡◌}
-use Rattle.tds_text.specs.Quoting.{after_comma, end_after, in_line}
+use Rattle.tds_text.specs.Quoting.{after_comma, in_line}
 use Rattle.tds_cells.proofs.RunSteps.{made_more}
 
 -- one piece was put, and another after it
@@ -61,13 +61,9 @@ names_none {contents} {left} {sink} e some going =
 
 module _ {W : Type 0} {contents : W → Option (List ℕ)} {columns left rest : List Column} {c : Column} {index : ℕ} {a b : Sink W}
     (is : left ≡ c ∷ rest) (x : NamesPut contents columns left index a b) where
-  -- how many there are
-  pub some_left : length columns ≡ index + (1 + length rest)
-  some_left = grind (arith, N.length-append)
-
   module _ {count : ℕ} (number : count ≡ length columns) where
     grown : names_text x.done left ++ in_line index (index + 1 == count) (name_field c) ≡ names_text (x.done ++ c ∷ []) rest
-    grown = grind (arith, one_more, some_left)
+    grown = grind (arith, one_more, N.length-append)
 
     all : (x.done ++ c ∷ []) ++ rest ≡ columns
     all = grind (arith, N.append_assoc)
@@ -92,9 +88,6 @@ names_all = grind (arith, N.append-nil)
 
 -- ---- the line between two sets and then the names, written to a slice
 
-between_is : (begun : Bool) → end_after begun ≡ N.between begun
-between_is = grind arith
-
 -- The names of the columns but these last ones were written to the front of a slice, after the line between two sets.
 pub record NamesWritten (begun : Bool) (columns left : List Column) (index made : ℕ) (room to : List ℕ) : Type 0 where
   pub done : List Column
@@ -103,10 +96,6 @@ pub record NamesWritten (begun : Bool) (columns left : List Column) (index made 
   pub same : length to ≡ length room
   pub within : made ≤ length to
   pub text : take made to ≡ N.between begun ++ names_text done left
-
-pub names_begun : {begun : Bool} {columns left : List Column} {made : ℕ} {room to : List ℕ} → left ≡ columns → 0 < length columns
-    → length to ≡ length room → made ≤ length to → take made to ≡ end_after begun → NamesWritten begun columns left 0 made room to
-names_begun = grind arith
 
 -- one more name was written after what was made
 pub name_written : {begun : Bool} {columns left rest : List Column} {c : Column} {index made m count : ℕ} {room to : List ℕ} (new more : List ℕ)
@@ -125,8 +114,3 @@ name_written {begun} {left} {rest} {c} {made} {m} {count} {to} new more is x num
       within = grind (arith, N.length-append, N.length-take-le);
       text = grind (arith, made_more, N.append_assoc, N.between, joined);
     }
-
--- all names were written
-pub names_written : {begun : Bool} {columns left : List Column} {index made : ℕ} {room to : List ℕ} → left ≡ []
-    → NamesWritten begun columns left index made room to → take made to ≡ N.between begun ++ N.header_line columns
-names_written = grind (arith, N.append-nil)

@@ -70,28 +70,8 @@ module _ (run : Run) (q : N.PayloadView) (are : N.AreBytes run.input) (left : q.
   reached_stopped s = elim s.cause [
     | inl r ↦ taken _ _ (rw (N.append_assoc s.bytes _ r.0.ahead) at r.0.takes) r.0.between s.spelt
     | inr c ↦ elim (N.ends_front _ _ _ _ _ q _ _ are left c.ends) [
-      | inl m ↦ record {
-        packets = m.packets;
-        rest = run.left;
-        begin = m.begin;
-        each = inl m.each;
-        within = m.within;
-        bytes = s.bytes;
-        more = c.part;
-        spelt = s.spelt;
-        payload_is = m.payload_is;
-      }
-      | inr x ↦ record {
-        packets = x.packets;
-        rest = x.more;
-        begin = x.begin;
-        each = inr x.each;
-        within = x.within;
-        bytes = s.bytes;
-        more = c.part;
-        spelt = s.spelt;
-        payload_is = x.payload_is;
-      }
+      | inl m ↦ grind arith
+      | inr x ↦ grind arith
     ]
   ]
 

@@ -74,11 +74,6 @@ module _ (charset : N.Charset) (room : ℕ) where
   part_grows tokens (N.TokenBody b m) e n = token_grows tokens (N.bodied b e)
   part_grows tokens (N.Fields f) e n = token_grows tokens (N.fixed f e)
 
-  -- each element adds to the span, by where it is read
-  part_span : {tokens : List Token} (at : Open) (e : List ℕ) → IsNext (N.response charset room) (part_at tokens at) e
-      → N.max (N.greatest_span tokens) (N.open_span at) ≤ N.span_so_far (N.part_add charset tokens at e)
-  part_span = grind (arith, N.choose, description_span, lead_cases, greatest_span-append)
-
   -- all elements between two states add to the text
   pub text_along : {p q : Part} {bytes : List ℕ} → N.Spelt (N.response charset room) p bytes q → (more : List ℕ) × (text_so_far p ++ more ≡ text_so_far q)
   text_along {p} {q} s =
@@ -87,4 +82,5 @@ module _ (charset : N.Charset) (room : ℕ) where
 
   -- and to the span
   pub span_along : (p q : Part) (bytes : List ℕ) → N.Spelt (N.response charset room) p bytes q → N.span_so_far p ≤ N.span_so_far q
-  span_along p q bytes s = N.Spelt-induct _ (λ r b. N.span_so_far p ≤ N.span_so_far r) (grind (arith, part_span)) p (omega arith) _ q s
+  span_along p q bytes s = N.Spelt-induct _ (λ r b. N.span_so_far p ≤ N.span_so_far r)
+      (grind (arith, N.choose, description_span, lead_cases, greatest_span-append)) p (omega arith) _ q s

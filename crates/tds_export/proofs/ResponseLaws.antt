@@ -212,27 +212,6 @@ abbrev HasColumns : Option (List Column) → Type 0
 HasColumns None = ⊤
 HasColumns (Some columns) = 0 < length columns
 
--- there are fields
-pub some_fields : (f : N.Fixed) → 0 < N.fields_length f
-some_fields f = grind arith
-
--- the first byte of a token begins it
-first_leads : {lead : N.Lead} (byte : ℕ) → N.IsFirst lead byte → N.lead_of byte ≡ Some lead
-first_leads = grind arith
-
--- the fields of a DONE say whether more follows
-more_is : {m : N.Bool} (fields : List ℕ) → N.SpellsMore m fields → N.more fields ≡ m
-more_is = grind arith
-
--- a byte that begins no row is free
-pub no_row : (current : Option (List Column)) → N.row_byte_fault N.false current ≡ None
-no_row = grind arith
-
--- no fault of a notice's Length, where it is long enough
-pub length_free : (room : ℕ) {n : ℕ} (tokens : List Token) (which : Bodied) (element : List ℕ) → (N.is_notice which ≡ true → 14 ≤ n) → little element ≡ n
-    → N.part_fault room tokens (N.TokenLength which) element ≡ None
-length_free = grind arith
-
 -- a body has no fault
 abbrev pub IsFree : Bodied → List ℕ → Type 0
 IsFree which body = (if N.is_notice which && N.not (N.holds_notice body) then Some N.BadNotice else None) ≡ None
@@ -289,24 +268,19 @@ module _ (charset : N.Charset) (room : ℕ) where
   spelt_body {tokens} {b} {body} long holds h =
       let n = length body in
       let two : little (n % 256 ∷ n / 256 ∷ []) ≡ n = omega arith in
-      rw h.0 (body_is_read (n % 256 ∷ n / 256 ∷ []) _ refl two (grind (arith, length_free)) (grind arith))
+      rw h.0 (body_is_read (n % 256 ∷ n / 256 ∷ []) _ refl two (grind arith) (grind arith))
 
   -- so is a notice
   notice_token_is_read : {tokens : List Token} (b : Bodied) {n : Notice} {t : Token} {body rest bytes : List ℕ} → N.StartsToken (N.WithBody b) rest bytes
       → N.SpellsBody body rest → N.SpellsNotice n body → N.bodied b body ≡ t → Leads (after_tokens tokens) bytes (with_token tokens t)
   notice_token_is_read {tokens} b {n} begins s h is =
       let r = notice_is_read h in
-      lead_then (N.WithBody b) begins (grind (arith, no_row)) (grind (arith, spelt_body))
+      lead_then (N.WithBody b) begins (grind arith) (grind (arith, spelt_body))
 
   -- a token with fields of a fixed length
   fixed_is_read : {tokens : List Token} (f : N.Fixed) {t : Token} {fields bytes : List ℕ} → N.StartsToken (N.WithFields f) fields bytes
       → length fields ≡ N.fields_length f → N.fixed f fields ≡ t → Leads (after_tokens tokens) bytes (with_token tokens t)
-  fixed_is_read {tokens} f begins long is = lead_then (N.WithFields f) begins (grind (arith, no_row)) (grind (arith, Spelt-step, some_fields))
-
-  -- which its fields spell
-  pub fixed_spelt : (current : Option (List Column)) (f : N.Fixed) {fields bytes : List ℕ} → N.StartsToken (N.WithFields f) fields bytes
-      → length fields ≡ N.fields_length f → N.SpellsToken charset room current (N.fixed f fields) bytes
-  fixed_spelt = grind arith
+  fixed_is_read {tokens} f begins long is = lead_then (N.WithFields f) begins (grind arith) (grind (arith, Spelt-step))
 
   row_token_is_read : {tokens : List Token} (current : Option (List Column)) (cells : List N.Cell) {bytes : List ℕ}
       → described_after None tokens ≡ current → HasColumns current → N.SpellsRowToken charset current cells bytes
@@ -320,23 +294,19 @@ module _ (charset : N.Charset) (room : ℕ) where
   -- what spells a token is read as it
   token_is_read : {tokens : List Token} (t : Token) {bytes : List ℕ} → HasColumns (described_after None tokens)
       → N.SpellsToken charset room (described_after None tokens) t bytes → Leads (after_tokens tokens) bytes (with_token tokens t)
-  token_is_read {tokens} (N.Metadata encoded columns) some h = lead_then N.AMetadata h.0 (grind (arith, no_row))
+  token_is_read {tokens} (N.Metadata encoded columns) some h = lead_then N.AMetadata h.0 (grind arith)
       (spelt_inside (description_agrees _) (N.description_is_read _ _ _ h.1))
-  token_is_read {tokens} N.NoMetadata some h = lead_then N.AMetadata h (grind (arith, no_row)) (Spelt-step _ _ _ _ (omega arith) refl refl refl)
+  token_is_read {tokens} N.NoMetadata some h = lead_then N.AMetadata h (grind arith) (Spelt-step _ _ _ _ (omega arith) refl refl refl)
   token_is_read (N.Row cells) some h = row_token_is_read _ _ refl some h
-  token_is_read {tokens} (N.PassedOver passed body) some (rest, begins, s) = lead_then (N.WithBody (N.APassed passed)) begins (grind (arith, no_row))
+  token_is_read {tokens} (N.PassedOver passed body) some (rest, begins, s) = lead_then (N.WithBody (N.APassed passed)) begins (grind arith)
       (spelt_body (λ e. cc) (λ e. cc) s)
   token_is_read (N.Error n) some (rest, body, begins, s, h) = notice_token_is_read N.AnError begins s h (ap N.Error (notice_is_read h).2)
   token_is_read (N.Info n) some (rest, body, begins, s, h) = notice_token_is_read N.AnInfo begins s h (ap N.Info (notice_is_read h).2)
-  token_is_read {tokens} (N.Returned r) some (rest, begins, h) = lead_then N.AReturn begins (grind (arith, no_row))
+  token_is_read {tokens} (N.Returned r) some (rest, begins, h) = lead_then N.AReturn begins (grind arith)
       (spelt_inside (return_agrees _) (return_is_read h))
   token_is_read (N.Done m) some h = fixed_is_read N.ADone h.1 h.2 (grind arith)
-  token_is_read (N.DoneInProc m) some h = fixed_is_read N.ADoneInProc h.1 h.2 (grind (arith, more_is))
+  token_is_read (N.DoneInProc m) some h = fixed_is_read N.ADoneInProc h.1 h.2 (grind arith)
   token_is_read (N.ReturnStatus n) some h = fixed_is_read N.AStatus h.1 h.2 (cc)
-
-  next_HasColumns : (current : Option (List Column)) (t : Token) (bytes : List ℕ) → HasColumns current → N.SpellsToken charset room current t bytes
-      → HasColumns (described_after current (t ∷ []))
-  next_HasColumns = grind arith
 
   tokens_are_read : (before : List Token) (current : Option (List Column)) (ts : List Token) (bytes : List ℕ) → described_after None before ≡ current
       → HasColumns current → N.SpellsTokens charset room current ts bytes → Leads (after_tokens before) bytes (after_tokens (before ++ ts))
@@ -345,7 +315,7 @@ module _ (charset : N.Charset) (room : ℕ) where
       let one : Leads (after_tokens before) h.0 (with_token before t) = grind (arith, token_is_read) in
       let now : described_after None (before ++ t ∷ []) ≡ described_after current (t ∷ []) = cc (described_after-append None before (t ∷ [])) in
       let rest = tokens_are_read (before ++ t ∷ []) (described_after current (t ∷ [])) ts h.1 now (grind arith) h.4 in
-      grind (arith, token_is_read, next_HasColumns, N.Spelt-append, append_assoc)
+      grind (arith, token_is_read, N.Spelt-append, append_assoc)
 
   -- What spells a response is read as its tokens, all of it.
   pub response_is_read : {tokens : List Token} {payload : List ℕ} → N.Response charset room tokens payload

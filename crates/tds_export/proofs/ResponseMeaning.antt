@@ -2,7 +2,7 @@
 use Rattle.tds_export.proofs as N
 use N.{Bool, Column, IsFirst, Lead, List, None, Option, Some, SpellsTokens, Token, [], ap, arith, described_after, drop, false, if◌then◌else◌, inl, inr, lead}
 use N.{length, message, passed, refl, sym, take, true, ℕ, ◌%◌, ◌&&◌, ◌*◌, ◌++◌, ◌+◌, ◌/◌, ◌<◌, ◌∙◌, ◌∷◌, ◌≡◌, ◌≤◌}
-use N.ResponseLaws.{ReturnMeans, return_step, described_after-append, fixed_spelt, part_at, IsFree, parts_within}
+use N.ResponseLaws.{ReturnMeans, return_step, described_after-append, part_at, IsFree, parts_within}
 use N.SomeBytes.{bytes_induct}
 
 -- so many of the bytes after the first n, and those after them
@@ -56,13 +56,6 @@ notice_spelt body h =
       procedures = omega arith;
       line = (long body la 4 t.2, refl);
     }
-
-empty_body : (k : N.Bodied) → ((if N.is_notice k && N.nat_lt 0 14 then Some N.BadNotice else None) ≡ None) → IsFree k []
-empty_body k h = grind arith
-
--- what a byte begins has it as its first byte
-leads_first : (byte : ℕ) {lead : Lead} → N.lead_of byte ≡ Some lead → IsFirst lead byte
-leads_first = grind (arith, N.eq_true)
 
 held : (b : Bool) → ((if N.not b then Some N.BadNotice else None) ≡ None) → b ≡ true
 held b h = grind arith
@@ -154,7 +147,7 @@ module _ (charset : N.Charset) (room : ℕ) where
 
   byte_step : (tokens : List Token) (b : List ℕ) (x : ℕ) (begun : Option Lead) → N.lead_of x ≡ begun → SpellsTokens charset room None tokens b
       → N.lead_fault (described_after None tokens) x begun ≡ None → PartMeans (N.after_first charset tokens begun) (b ++ x ∷ [])
-  byte_step = grind (arith, lead_step, leads_first)
+  byte_step = grind (arith, lead_step, N.eq_true)
 
   body_means : {tokens : List Token} {k : N.Bodied} {body b : List ℕ} → (h : AfterLead tokens (N.WithBody k) (N.SpellsBody body) b) → IsFree k body
       → PartMeans (N.with_token tokens (N.bodied k body)) b
@@ -176,11 +169,11 @@ module _ (charset : N.Charset) (room : ℕ) where
       let t = N.two_bytes e n.whole bytes in
       let read = ap (λ v. v ++ e) h.follows ∙ t.0 in
       N.choose (λ p. PartMeans p (b ++ e)) _ _ _ (λ z. body_means (further e h (read ∙ ap (λ v. v % 256 ∷ v / 256 ∷ []) (N.eq_true _ 0 z), omega arith))
-      (grind (arith, empty_body, N.eq_true))) (λ z. further e h (read, t.1))
+      (grind (arith, N.eq_true))) (λ z. further e h (read, t.1))
   part_step (N.TokenBody k m) b {e} bytes h n = body_means (further e h (cc, (omega arith))) n.free
   part_step {tokens} (N.Fields f) b {e} bytes h n =
       let to : AfterLead tokens (N.WithFields f) (λ rest. rest ≡ e) (b ++ e) = further e h (cc) in
-      token_means _ to (fixed_spelt _ _ _ f (to.first, cc, to.begins) n.whole)
+      token_means _ to (grind arith)
 
   -- What is read as a part of a response is spelt so.
   part_is_spelt : {bytes : List ℕ} {p : N.Part} → N.AreBytes bytes → N.Spelt (N.response charset room) N.response_start bytes p → PartMeans p bytes

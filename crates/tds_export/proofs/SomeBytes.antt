@@ -31,10 +31,6 @@ AreBytes-replicate (suc n) x h = (h, AreBytes-replicate n x h)
 pub exactly : (P : ℕ → Type 0) (n m : ℕ) → (n == m) ≡ true → P m → P n
 exactly = grind arith
 
--- a test for one of some numbers
-pub one_of_two : (P : ℕ → Type 0) (a b n : ℕ) → (n == a || n == b) ≡ true → P a → P b → P n
-one_of_two = grind arith
-
 pub one_of_four : (P : ℕ → Type 0) (a b c d n : ℕ) → (n == a || n == b || n == c || n == d) ≡ true → P a → P b → P c → P d → P n
 one_of_four = grind arith
 

@@ -168,10 +168,9 @@ module _ (charset : N.Charset) (room : ℕ) where
   fresh_grown : (tokens : List Token) (n : ℕ) (at : Open) → IsFresh at → grown (part_at tokens at) ≤ length (text tokens) + 64 * n
   fresh_grown = grind (arith, length-append, part_at)
 
-  -- each element of bytes pays for what it adds
-  part_grown : {tokens : List Token} (at : Open) (e : List ℕ) → AreBytes e → IsNext (response charset room) (part_at tokens at) e
-      → grown (N.part_add charset tokens at e) ≤ length (text tokens) + length (N.open_text at) + pending at + 64 * length e
-  part_grown = grind (
+  -- each element pays for what it adds
+  grown_more : (p : Part) (e : List ℕ) → AreBytes e → IsNext (response charset room) p e → grown ((response charset room).add p e) ≤ grown p + 64 * length e
+  grown_more = grind (
     arith,
     bare_body,
     bare_fixed,
@@ -180,7 +179,6 @@ module _ (charset : N.Charset) (room : ℕ) where
     described_more,
     fresh_grown,
     lead_cases,
-    length-append,
     part_at,
     cell_more,
     next_length,
@@ -194,11 +192,8 @@ module _ (charset : N.Charset) (room : ℕ) where
     text_after-snoc,
     with_return_grown,
     with_row_grown,
+    length-append,
   )
-
-  -- each element pays for what it adds
-  grown_more : (p : Part) (e : List ℕ) → AreBytes e → IsNext (response charset room) p e → grown ((response charset room).add p e) ≤ grown p + 64 * length e
-  grown_more = grind (arith, part_grown, length-append)
 
   -- so do all elements between two states
   grown_along : {p q : Part} {bytes : List ℕ} → AreBytes bytes → N.Spelt (response charset room) p bytes q → grown q ≤ grown p + 64 * length bytes

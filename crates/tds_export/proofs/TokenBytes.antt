@@ -4,7 +4,7 @@ use N.{Bool, Cell, IsNext, List, None, Row, RowsPart, Some, Token, Tracks, [], a
 use N.{response, rows, sym, text, true, with_row, ℕ, ◌++◌, ◌+◌, ◌==◌, ◌∙◌, ◌∷◌, ◌≡◌, Charset, SinkView, Part, PayloadView, Takes, after_tokens, between, inl}
 use N.{inr, ◌-◌, ◌<◌, ◌^◌, ◌≤◌, columns_of, Stop}
 use N.TokenSteps.{OpenTexts, holds-snoc, quietly, row_stops, row_text, stops_further, same_text, start_text, stops_quietly, streams_both}
-use N.ResponseLaws.{described_after-append, row_agrees, inside, spelt_both, no_row}
+use N.ResponseLaws.{described_after-append, spelt_both}
 use N.TokenLaws.{text_after-snoc, tracks_row, with_rows}
 
 -- a byte that is no other token's
@@ -34,18 +34,10 @@ module _ (which : N.RowToken) (charset : Charset) (room : ℕ) (all : List N.Col
     abbrev Steps : RowsPart → List ℕ → RowsPart → Type 0
     Steps p e q = IsNext (response charset room) (in_rows p) e × ((response charset room).add (in_rows p) e ≡ in_rows q)
 
-    token_next : (before : List (List Cell)) (cells : List Cell) → Steps (record { before = before; at = N.WholeRow cells }) (N.token_byte which ∷ [])
-        (record { before = before ++ cells ∷ []; at = N.token_start which charset all })
-    token_next = grind (arith, append_assoc, described_after-append, N.map-append, rows_describe)
-
-    row_next : (ts : List Token) (at : N.RowPart) (e : List ℕ) → IsNext (N.row charset) at e → IsNext (response charset room) (with_row ts at) e
-        × ((response charset room).add (with_row ts at) e ≡ with_row ts ((N.row charset).add at e))
-    row_next = grind arith
-
     element_next : {before : List (List Cell)} (p : N.RowPart) (e : List ℕ) → IsNext (rows which charset all) (record { before = before; at = p }) e
         → Steps (record { before = before; at = p }) e ((rows which charset all).add (record { before = before; at = p }) e)
     element_next (N.WholeRow cells) [] n = grind arith
-    element_next (N.WholeRow cells) (x ∷ []) n = rw (is_token_byte n.free) (token_next _ _)
+    element_next (N.WholeRow cells) (x ∷ []) n = rw (is_token_byte n.free) (grind (arith, append_assoc, described_after-append, N.map-append, rows_describe))
     element_next (N.WholeRow cells) (x ∷ y ∷ r) n = grind arith
     element_next p e n = grind arith
 
@@ -141,15 +133,10 @@ pub record BeginsToken (charset : Charset) (room : ℕ) (tokens : List Token) (b
 some_columns : {bytes : List ℕ} → N.IsDescription bytes → 0 < length (columns_of bytes)
 some_columns = grind arith
 
-begins_lead : {charset : Charset} {room : ℕ} {tokens : List Token} {byte : ℕ} {described : Bool} {bytes : List ℕ} {begun : N.Lead}
-    → N.lead_of byte ≡ Some begun → N.IsUnder described begun → bytes ≡ N.encoded_after [] tokens → (described ≡ true → N.IsDescription bytes)
+pub begins_lead : {charset : Charset} {room : ℕ} {tokens : List Token} {byte : ℕ} {described : Bool} {bytes : List ℕ} {begun : N.Lead}
+    → (N.lead_of byte ≡ Some begun) × N.IsUnder described begun → bytes ≡ N.encoded_after [] tokens → (described ≡ true → N.IsDescription bytes)
     → Describe tokens described → BeginsToken charset room tokens byte (N.in_lead charset (columns_of bytes) begun tokens)
-begins_lead = grind (arith, columns_known, no_row, some_columns, start_text)
-
-pub begins_kind : {charset : Charset} {room : ℕ} {tokens : List Token} {byte : ℕ} {described : Bool} {bytes : List ℕ} (kind : N.TokenKind)
-    → N.IsOfKind described byte kind → bytes ≡ N.encoded_after [] tokens → (described ≡ true → N.IsDescription bytes) → Describe tokens described
-    → BeginsToken charset room tokens byte (N.in_kind charset (columns_of bytes) kind tokens)
-begins_kind kind h is d k = begins_lead h.0 h.1 is d k
+begins_lead = grind (arith, columns_known, some_columns, start_text)
 
 -- the first byte of a token is read, and nothing put for it
 abbrev first : {charset : Charset} {room byte : ℕ} {tokens : List Token} {to : Part} {a b : PayloadView} {h : SinkView}
@@ -184,22 +171,14 @@ module _ {charset : Charset} {room byte : ℕ} {tokens : List Token} {to : Part}
 
 -- ---- between tokens
 
-refused : (charset : Charset) (room : ℕ) (tokens : List Token) (a b : PayloadView) (place byte : ℕ) (described : Bool) (fault : N.Fault)
-    → Describe tokens described → N.IsRefusedByte described byte fault → Takes a b (byte ∷ []) 1 → N.IsBetween b
-    → N.StopsReading (response charset room) (after_tokens tokens) a b place (after_tokens tokens) (record { fault = fault; place = N.Payload place })
-refused charset room tokens a b place byte described fault k (inl x) t between =
-    N.refused_at_once (response charset room) (after_tokens tokens) a b place (byte ∷ []) fault (omega arith) refl (grind arith) t between
-refused charset room tokens a b place byte described fault k (inr x) t between =
-    let first : (response charset room).fault (after_tokens tokens) (byte ∷ []) ≡ Some fault = grind arith in
-    N.refused_at_once _ _ a b _ (byte ∷ []) fault (omega arith) refl first t between
-
 module _ (charset : Charset) (room : ℕ) {place : ℕ} {tokens : List Token} {a b : PayloadView} {h : SinkView} {area : N.Space} {failed : Bool}
     (d : h.delivered ≤ 2 ^ 64 - 1) (going : failed ≡ N.false) (holds : N.IsHolding area (after_tokens tokens)) where
   -- a byte begins no token
   pub stops_at_byte : {byte : ℕ} {described : Bool} {fault : N.Fault} → Describe tokens described → N.IsRefusedByte described byte fault
       → Takes a b (byte ∷ []) 1 → N.IsBetween b
       → N.StepStops (response charset room) (after_tokens tokens) a b place h h area failed (record { fault = fault; place = N.Payload place })
-  stops_at_byte {byte} {described} {fault} k why t between = stops_quietly refl holds d going (refused _ _ _ a b _ _ _ _ k why t between)
+  stops_at_byte {byte} {described} {fault} k why t between =
+      stops_quietly refl holds d going (N.refused_at_once _ _ a b _ (byte ∷ []) fault (omega arith) refl (grind arith) t between)
 
   -- the payload stopped
   pub stops_between : {stop : Stop} → N.Ends a b [] stop → (stop.fault ≡ N.MessageEnded → ⊥)

@@ -5,7 +5,7 @@ use N.{after_tokens, ap, append-nil, arith, between, false, in_metadata, inl, in
 use N.{◌%◌, ◌++◌, ◌+◌, ◌-◌, ◌<◌, ◌==◌, ◌^◌, ◌∙◌, ◌∷◌, ◌≡◌, ◌≤◌}
 use N.TokenLaws.{bare, bare_fixed, begun_after, begun_where_sets, encoded_after-append, greatest_span-append, is_bare, same_first, text_after-snoc}
 use N.TokenLaws.{tracks_metadata, tracks_none, tracks_quiet}
-use N.ResponseLaws.{description_agrees, row_agrees, some_fields, part_at, inside, read_inside, stop_inside}
+use N.ResponseLaws.{description_agrees, row_agrees, part_at, inside, read_inside, stop_inside}
 
 -- A token has begun: what the tokens before it left is known, and the sink goes on.
 pub record OpenTexts (tokens : List Token) (progress : Progress) (u : View) : Type 0 where
@@ -126,10 +126,6 @@ start_text charset (c ∷ cs) tokens some = simp N.start_quiet
 pub row_text : (tokens : List Token) (part : N.RowPart) → text_so_far (with_row tokens part) ≡ text tokens ++ N.row_so_far part
 row_text = grind (arith, append-nil, text_after-snoc)
 
--- before a row's text stands that of the tokens
-abbrev row_front : (tokens : List Token) (part : N.RowPart) → text tokens ++ N.row_so_far part ≡ text_so_far (with_row tokens part)
-row_front tokens part = simp row_text
-
 -- and while a row is read
 row_holds : {area : Space} {tokens : List Token} (part : N.RowPart) → IsHolding area (after_tokens tokens) → IsHolding area (with_row tokens part)
 row_holds (N.WholeRow cells) h = holds-snoc _ refl h
@@ -148,7 +144,7 @@ module _ (charset : Charset) (room : ℕ) {place : ℕ} {start : N.RowPart} {are
           record {
             at = with_row tokens x.at;
             stops = stop_inside agrees y.0;
-            puts = N.puts_inside _ _ _ (inside agrees) N.row_so_far text_so_far (text tokens) (row_front tokens) start x.at _ _ y.1;
+            puts = N.puts_inside _ _ _ (inside agrees) N.row_so_far text_so_far (text tokens) (λ p. sym (row_text tokens p)) start x.at _ _ y.1;
             holds = grind (arith, row_holds);
           },
           y.2,
@@ -156,7 +152,7 @@ module _ (charset : Charset) (room : ℕ) {place : ℕ} {start : N.RowPart} {are
         | inr y ↦ inr (
           record {
             at = with_row tokens x.at;
-            breaks = N.breaks_inside _ _ _ (inside agrees) N.row_so_far text_so_far (text tokens) (row_front tokens) start a b _ _ x.at stop y.0;
+            breaks = N.breaks_inside _ _ _ (inside agrees) N.row_so_far text_so_far (text tokens) (λ p. sym (row_text tokens p)) start a b _ _ x.at stop y.0;
             holds = rw ((inside agrees).add x.at y.0.element (grind arith)) (row_holds _ holds);
           },
           y.1,
@@ -165,11 +161,6 @@ module _ (charset : Charset) (room : ℕ) {place : ℕ} {start : N.RowPart} {are
 
 -- ---- COLMETADATA
 
-header_text : {progress : Progress} {tokens : List Token} (bytes : List ℕ) (columns : List Column) → N.TracksBefore progress tokens
-    → text_so_far (in_metadata tokens) ++ (between (N.nat_lt 0 progress.report.sets) ++ N.header_line columns) ≡ text_so_far
-    (after_tokens (tokens ++ N.Metadata bytes columns ∷ []))
-header_text = grind (arith, append-nil, begun_after, begun_where_sets, text_after-snoc)
-
 metadata_holds : {area old_area : Space} {tokens : List Token} (columns : List Column) (peak : area.peak ≤ max old_area.peak (length area.bytes + 0))
     → IsHolding old_area (after_tokens tokens) → IsHolding area (after_tokens (tokens ++ N.Metadata area.bytes columns ∷ []))
 metadata_holds = grind (arith, encoded_after-append, greatest_span-append)
@@ -177,10 +168,6 @@ metadata_holds = grind (arith, encoded_after-append, greatest_span-append)
 open_text_none : (tokens : List Token) (d : N.DescriptionPart) → 0 < N.described_size d
     → text_so_far (N.with_described tokens d) ≡ text_so_far (in_metadata tokens)
 open_text_none = grind arith
-
-open_holds : {area : Space} (tokens : List Token) {k : ℕ} (d : N.DescriptionPart) → 0 < N.described_size d → area.bytes ≡ N.description_bytes d
-    → area.peak ≤ max k (N.span d) → k ≤ max (N.greatest_span tokens) 0 → IsHolding area (N.with_described tokens d)
-open_holds = grind arith
 
 some_bytes : (room : ℕ) (area bytes : List ℕ) (columns : List Column) → N.Spelt (N.description room) N.BeforeCount bytes (N.WholeDescription area columns)
     → 0 < length bytes
@@ -209,7 +196,7 @@ module _ (charset : Charset) {tokens : List Token} {s : Progress} {u : View} {ar
   -- the description is cut or refused
   pub metadata_stops : {stop : Stop} → N.StopsDescribing u.area.room N.BeforeCount u.seen b u.place u.area.peak area stop
       → N.StopsIn charset (in_metadata tokens) u (record u { seen = b; area = area }) stop
-  metadata_stops x = stops_quietly (grind arith) (grind (arith, open_holds)) begun.delivered begun.going (stop_inside (description_agrees _ _ _) x.stops)
+  metadata_stops x = stops_quietly (grind arith) (grind arith) begun.delivered begun.going (stop_inside (description_agrees _ _ _) x.stops)
 
   module _ {columns : List Column} {place : ℕ} {after : SinkView} (shown : N.columns_of area.bytes ≡ columns)
       (x : N.Describes u.area.room N.BeforeCount u.seen b u.place place u.area.peak area (N.WholeDescription area.bytes columns)) where
@@ -221,7 +208,12 @@ module _ (charset : Charset) {tokens : List Token} {s : Progress} {u : View} {ar
         let r = read_inside (description_agrees _ _ _) x.reads in
         quietly begun refl (record {
           more = N.Metadata area.bytes columns ∷ [];
-          streams = record { bytes = r.bytes; spelt = r.spelt; takes = r.takes; puts = grind (arith, between, header_text) };
+          streams = record {
+            bytes = r.bytes;
+            spelt = r.spelt;
+            takes = r.takes;
+            puts = grind (arith, between, append-nil, begun_after, begun_where_sets, text_after-snoc);
+          };
           place_is = x.place_is;
           tracks = tracks_metadata begun.tracks _ shown;
           holds = metadata_holds _ x.bound begun.holds;
@@ -249,7 +241,7 @@ module _ (charset : Charset) {tokens : List Token} {s : Progress} {u : View} {ar
             few = few;
             puts = same_text (in_metadata tokens) (N.with_described tokens l.at) _ (sym open_text) begun.delivered;
             more = header;
-            text_is = grind (arith, header_text);
+            text_is = grind (arith, append-nil, begun_after, begun_where_sets, text_after-snoc);
             breaks = rw shown at breaks;
           };
           holds = rw l.to_is (metadata_holds _ x.bound begun.holds);

@@ -164,10 +164,6 @@ whole_message_of {run} {q} side x =
 text_after_tokens : (tokens : List N.Token) → text_so_far (N.after_tokens tokens) ≡ text tokens
 text_after_tokens = grind (arith, append-nil)
 
--- all of a payload
-take_payload : (l : List ℕ) → take (length l) l ≡ l
-take_payload l = cc (append-nil l, N.take-append_seam l [])
-
 -- the last delivery failed
 failed_at_end : {run : Run} {tokens : List N.Token} → WholeMessage run tokens → text_put run ≡ text tokens → N.FailsToWrite run.given
     → N.StopsInText run N.WriteFailed (length run.gained)
@@ -178,11 +174,6 @@ failed_at_end = grind arith
 -- the payload of a reader that told its bytes begins with them
 begins_run : (given : ExportInput) {input : List ℕ} → given.before.reader.bytes ≡ Some input → N.begun_at given ≡ start (run_of given input [] [])
 begins_run given e = cc
-
--- where its reader stands
-reader_side : {given : ExportInput} {input left gained : List ℕ} {q : PayloadView} → AreBytes input → q.left ≡ Some left → N.IsReader given q
-    → ReaderSide (run_of given input left gained) q
-reader_side = grind arith
 
 -- all of the text was put, where the whole response was read
 whole_puts : {g : N.Grammar Part N.Fault} {a q : PayloadView} {h k : SinkView} {area : N.Space} → (x : N.ReadsWhole g response_start a q h k area)
@@ -208,7 +199,7 @@ module _ (given : ExportInput) (input left : List ℕ) (q : PayloadView) (stop :
   stop_reading {l} writer y t =
       let p = rw y.puts.1 at y.puts.2 in
       let d = sends _ _ _ writer p t.1 in
-      let stops = reading_stops (reader_side are ql reader) y.stops y.holds (d.all ∙ append-nil (text_so_far y.at)) in (
+      let stops = reading_stops (grind arith) y.stops y.holds (d.all ∙ append-nil (text_so_far y.at)) in (
         d.gained,
         d.has,
         record {
@@ -236,14 +227,14 @@ module _ (given : ExportInput) (input left : List ℕ) (q : PayloadView) (stop :
   stop_writing k writer y =
       let x = y.breaks in
       let d = sends _ _ _ writer (rw x.puts.1 at x.puts.2) x.breaks.3 in
-      in_text writer d.has d.delivered (broken _ _ (reader_side are ql reader) writer x y.holds refl d.all) x.breaks.8
+      in_text writer d.has d.delivered (broken _ _ (grind arith) writer x y.holds refl d.all) x.breaks.8
 
   -- the last delivery failed
   stop_at_end : (k : SinkView) → IsWriter given k
       → N.StopsAtEnd (grammar_of given) response_start began q (fresh_at given) k given.after.areas.description stop → StopTold given input left stop k
   stop_at_end k writer y =
       let d = sends _ _ _ writer (whole_puts y.whole) y.fails.1 in
-      in_text writer d.has d.delivered (failed_at_end (whole_message_of (reader_side are ql reader) y.whole) (simp (d.all, append-nil))
+      in_text writer d.has d.delivered (failed_at_end (whole_message_of (grind arith) y.whole) (simp (d.all, append-nil))
       (grind (arith, N.rose))) y.fails.2
 
   -- each of these
@@ -287,7 +278,7 @@ report_tells {given} {report} x = λ input are e. let z = subst (λ (a : Payload
     let left = known_left input y.whole.takes.0 y.whole.takes.1.0 in
     let d = sends y.middle [] y.finishes.0 x.writer (whole_puts y.whole) y.finishes.1 in
     let run = run_of given input left.0 d.gained in
-    let whole = whole_message_of (reader_side are left.1 x.reader) y.whole in
+    let whole = whole_message_of (grind arith) y.whole in
     let empty = sym x.writer.waiting ∙ y.finishes.2 in
     let same = d.all ∙ append-nil (text tokens) in
     let gained = sym (append-nil run.gained) ∙ ap (λ w. run.gained ++ w) (sym empty) ∙ same in

@@ -10,7 +10,7 @@ returns-in_err-pass_notice g c = step_read c.requires.running (search N.rules) (
 
 pub returns-then-self-gt0 : goal.returns-then-self-gt0
 returns-then-self-gt0 g c = step_read c.requires.running (search N.rules)
-    (λ tokens begun. later_error_reads _ begun c.if-self-gt0.true (c.in_ok-pass_notice.ensures.gives.1 _ _ tokens N.AnError refl))
+    (λ tokens begun. later_error_reads _ begun (c.in_ok-pass_notice.ensures.gives.1 _ _ tokens N.AnError refl) c.if-self-gt0.true)
 
 pub returns-in_err-take_notice : goal.returns-in_err-take_notice
 returns-in_err-take_notice g c = step_read c.requires.running (search N.rules) (λ tokens begun.
@@ -27,6 +27,6 @@ returns g c =
     let body = c.bytes-body.ensures.value in
     let error = c.error_of.ensures ∙ ap (λ l. N.server_error (N.notice_of l)) body in
     let message = c.message_of.ensures.value ∙ ap (λ l. (N.notice_of l).message) body in
-    rw error (first_error_reads _ begun _ none empty (ap (λ (s : Space). s.room) c.clear.ensures.value ∙ c.requires.running.notice) (c.utf16_into.ensures
-    ∙ ap (λ l. N.appended cleared (N.whole_within (cleared.room - N.length cleared.bytes) (N.characters l))) message)
-    (c.in_ok-take_notice.ensures.gives _ _ tokens N.AnError refl)))
+    rw error (first_error_reads _ begun (c.in_ok-take_notice.ensures.gives _ _ tokens N.AnError refl) _ none empty
+    (ap (λ (s : Space). s.room) c.clear.ensures.value ∙ c.requires.running.notice) (c.utf16_into.ensures
+    ∙ ap (λ l. N.appended cleared (N.whole_within (cleared.room - N.length cleared.bytes) (N.characters l))) message)))

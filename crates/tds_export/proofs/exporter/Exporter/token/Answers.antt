@@ -1,7 +1,7 @@
 use Rattle.tds_export.proofs as N
 use N.exporter.Exporter.token.Goals as goal
 use N.{seen, ◌-◌, ◌≡◌}
-use N.TokenBytes.{begins_kind, reads_after_byte, stops_after_byte, stops_at_byte, stops_between}
+use N.TokenBytes.{begins_lead, reads_after_byte, stops_after_byte, stops_at_byte, stops_between}
 use N.TokenLaws.{tracks_begun}
 
 pub returns-in_err-byte-clause-gives : goal.returns-in_err-byte-clause-gives
@@ -13,13 +13,13 @@ returns-in_err-byte-clause-gives g c = λ tokens tracks holds noted. let sink = 
 pub returns-in_ok-body-in-Ok-clause-gives : goal.returns-in_ok-body-in-Ok-clause-gives
 returns-in_ok-body-in-Ok-clause-gives g c = λ tokens tracks holds noted. let read = rw c.in-Some.is at c.in_ok-byte.ensures.gives in
     let x = c.in_ok-body-in-Ok.ensures.reads tokens (tracks_begun tracks) holds noted in (
-      reads_after_byte _ (begins_kind _ c.in-Ok.ensures holds.bytes c.requires.described tracks.described) c.requires.sink.ready.2 read.takes read.place_is x.0,
+      reads_after_byte _ (begins_lead c.in-Ok.ensures holds.bytes c.requires.described tracks.described) c.requires.sink.ready.2 read.takes read.place_is x.0,
       x.1,
     )
 
 pub returns-in_err-body-in-Ok-clause-gives : goal.returns-in_err-body-in-Ok-clause-gives
 returns-in_err-body-in-Ok-clause-gives g c = λ tokens tracks holds noted. let read = rw c.in-Some.is at c.in_ok-byte.ensures.gives in
-    N.passed _ _ _ _ c.from_residual-in_err-body-in-Ok.ensures.1 (stops_after_byte _ (begins_kind _
+    N.passed _ _ _ _ c.from_residual-in_err-body-in-Ok.ensures.1 (stops_after_byte _ (begins_lead
     c.in-Ok.ensures holds.bytes c.requires.described tracks.described) c.requires.sink.ready.2 read.takes read.place_is
     (c.in_err-body-in-Ok.ensures.reads tokens (tracks_begun tracks) holds noted))
 
