@@ -82,10 +82,8 @@ pub fn write_front<const COPY: bool>(kind: &Kind, bytes: &[u8], to: &mut [u8]) -
         Kind::Int8 => as_front(8, write_integer(8, &bytes[..8], to)),
         Kind::IntN(4) => as_front(5, write_integer(4, counted(4, bytes)?, to)),
         Kind::IntN(8) => as_front(9, write_integer(8, counted(8, bytes)?, to)),
-        Kind::IntN(n) => as_front(
-            1 + n as usize,
-            write_integer(n, counted(n as usize, bytes)?, to),
-        ),
+        Kind::IntN(2) => as_front(3, write_integer(2, counted(2, bytes)?, to)),
+        Kind::IntN(_) => as_front(2, write_integer(1, counted(1, bytes)?, to)),
         Kind::Bit => as_front(1, write_bit(&bytes[..1], to)),
         Kind::BitN => as_front(2, write_bit(counted(1, bytes)?, to)),
         Kind::Money4 => as_front(4, write_money(4, &bytes[..4], to)),
@@ -108,6 +106,7 @@ pub fn write_front<const COPY: bool>(kind: &Kind, bytes: &[u8], to: &mut [u8]) -
             as_front(1 + value.len(), write_decimal(length, scale, value, to))
         }
         Kind::Date => as_front(4, write_date(counted(3, bytes)?, to)),
+        Kind::Time(7) => as_front(6, write_time(7, counted(5, bytes)?, to)),
         Kind::Time(scale) => {
             let value = counted_any(bytes)?;
             as_front(1 + value.len(), write_time(scale, value, to))
