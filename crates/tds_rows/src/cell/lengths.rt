@@ -11,6 +11,7 @@ use tds_cells::{NULL_LENGTH, NULL_TOTAL, UNKNOWN_TOTAL};
 use tds_packet::{Fault, Payload, Stop};
 
 // Reads a number of `size` bytes, the lowest first.
+#[inline(always)]
 fn read_number<R: Read>(payload: &mut Payload<R>, size: usize) -> Result<u64, Stop>
     requires going { IsGoing payload.old }
     requires some { 0 < size }

@@ -19,6 +19,7 @@ use crate::reading::earlier_stop;
 use std::io::{Read, Write};
 use tds_csv::{JoinFault, Joiner, Sink};
 use tds_packet::{Fault, Payload, Stop};
+use tds_text::framing::{BINARY_MARK, QUOTE};
 use tds_text::{write_comma, write_line_end};
 use tds_values::Reach;
 
@@ -41,30 +42,30 @@ fn join_stop(fault: JoinFault, column: u16, place: u64) -> Stop
 
 // Puts the comma before a long value, and what comes before its text.
 fn put_opening<W: Write>(column: u16, quoted: bool, sink: &mut Sink<W>) -> Result<(), Stop>
-    requires { IsWriting sink.old }
+    requires { IsReady sink.old }
     ensures { PutsPiece W.contents sink.old sink.new (after_comma column (opening quoted)) result }
 {
-    let mut comma = [0u8; 1];
-    let made = write_comma(column, &mut comma);
-    sink.put(&comma[..made])?;
-    if quoted {
-        return sink.open_quoted();
-    }
-    sink.open_binary()
+    let mut text = [0u8; 3];
+    let start = write_comma(column, &mut text);
+    let made = if quoted {
+        text[start] = QUOTE;
+        start + 1
+    } else {
+        text[start] = BINARY_MARK[0];
+        text[start + 1] = BINARY_MARK[1];
+        start + 2
+    };
+    sink.put(&text[..made])
 }
 
 // Puts what comes after the text of a long value, and the end of the line if it is the last.
 fn put_closing<W: Write>(quoted: bool, last: bool, sink: &mut Sink<W>) -> Result<(), Stop>
-    requires { IsWriting sink.old }
+    requires { IsReady sink.old }
     ensures { PutsPiece W.contents sink.old sink.new (closing quoted ++ end_after last) result }
 {
-    let mut end = [0u8; 2];
-    let made = write_line_end(last, 0, &mut end);
-    if !quoted {
-        return sink.put(&end[..made]);
-    }
-    sink.close_quoted()?;
-    sink.put(&end[..made])
+    let mut text = [QUOTE, 0, 0];
+    let made = write_line_end(last, usize::from(quoted), &mut text);
+    sink.put(&text[..made])
 }
 
 // A long value that is being read, and the joiner that makes its text.
