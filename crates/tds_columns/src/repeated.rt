@@ -3,7 +3,7 @@ ghost use Rattle.std.specs.Prelude.{◌≡◌, ◌≤◌, [], true, None, Err, l
 ghost use Rattle.tds_columns.specs.Elements.{LeavesReading};
 ghost use Rattle.tds_columns.specs.Gather.{DescriptionRead};
 ghost use Rattle.tds_columns.specs.View.{IsDescription};
-ghost use Rattle.tds_packet.specs.Payloads.{IsSound, LeavesPayload, buffered};
+ghost use Rattle.tds_packet.specs.Payloads.{IsSound, buffered};
 
 use crate::metadata::{COUNT, Described, gather};
 use crate::view::Columns;
@@ -21,8 +21,8 @@ fn come_next<R: Read>(payload: &Payload<R>, area: &Area) -> bool
     payload.stopped().is_none() && payload.buffered().starts_with(area.bytes())
 }
 
-/// Reads a description as [`gather`] does, into an area that has the one before it if `described`. One that has the same bytes is
-/// left where it is, as those of the sets that a loop over a cursor makes.
+/// Reads a description as [`gather`] does, into an area that has the one before it if `described`. A description with the same
+/// bytes as that one is left where it is: each FETCH in a loop over a cursor sends the same again.
 pub fn gather_next<R: Read>(
     payload: &mut Payload<R>,
     area: &mut Area,
