@@ -84,6 +84,7 @@ def run_command(name: str, words: list[str]) -> int:
             if handler is _interrupted or handler is signal.SIG_DFL:
                 with contextlib.suppress(ValueError):  # only the main thread may set one, which alone changes it
                     signal.signal(number, _raising)
+        common.check_streams()
         return int(command.run(words))
     finally:
         for number, handler in before.items():

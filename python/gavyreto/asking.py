@@ -56,16 +56,16 @@ class Interrupt:
 
 
 class Asking:
-    """A session on which statements are asked, the program that reads their answers, a character set if refused columns are rewritten,
-    and what packets are given to as they come."""
+    """A session on which statements are asked, the program that reads their answers, and a character set if refused columns are rewritten."""
 
-    def __init__(
-        self, session: Session, run: Program, adapts: Optional[str], keep: Optional[Write] = None, interrupt: Optional[Interrupt] = None,
-    ) -> None:
-        self._session, self._run, self._adapts, self._keep, self._interrupt = session, run, adapts, keep, interrupt
+    def __init__(self, session: Session, run: Program, adapts: Optional[str], interrupt: Optional[Interrupt] = None) -> None:
+        self._session, self._run, self._adapts, self._interrupt = session, run, adapts, interrupt
 
-    def answer(self, statement: str, output: program.Output, came: Callable[[int], object] = lambda _: None) -> Ending:
-        """Sends a statement, and runs the program on its answer; `came` is told how many bytes come of it, 0 while it is waited for."""
+    def answer(
+        self, statement: str, output: program.Output, came: Callable[[int], object] = lambda _: None, keep: Optional[Write] = None,
+    ) -> Ending:
+        """Sends a statement, and runs the program on its answer; `came` is told how many bytes come of it, 0 while it is waited for, and
+        `keep` is given its packets as they come."""
         session, run, wrong = self._session, self._run, ""
         failure: Optional[BaseException] = None
         run.begin()
@@ -78,11 +78,17 @@ class Asking:
             came(len(data))
             run.hand(data, output)
 
+        def following() -> bytes:
+            data = session.next() if keep or run.is_reading else b""
+            if keep:
+                keep(data)
+            return data
+
         session.meanwhile(attend)
         try:
             session.send(statement)
-            wrong = hand_over(self._following, hand, self._adapts)
-            while self._keep and self._following():
+            wrong = hand_over(following, hand, self._adapts)
+            while keep and following():
                 pass  # what the program needs no more of is kept too
         except (ConnectionFailed, BadAnswer, Signalled) as error:
             failure = error
@@ -113,14 +119,6 @@ class Asking:
         if ending.status == DONE and session.unfinished:
             return ending._replace(status=SERVER_ERROR, notes=f"{ending.notes}{session.unfinished}\n")
         return ending
-
-    def _following(self) -> bytes:
-        """The next bytes of the answer, as far as they are needed. Packets are kept as they came."""
-        if not self._keep:
-            return self._session.next() if self._run.is_reading else b""
-        data = self._session.next()
-        self._keep(data)
-        return data
 
 
 def finished(session: Session) -> str:

@@ -138,6 +138,24 @@ class Outputs(Live):
         came = self.beside((), f"{asked} -o /dev/stdout >&-")
         self.assert_ends(came, 5, b"", "standard output is closed")
 
+    def test_names_of_processes(self) -> None:
+        """A descriptor of the command itself, by whatever name, is written to where it is; a file that another process has open isn't."""
+        for name in ("/proc/$$/fd/1", "/proc/self/task/$$/fd/1", "/proc/thread-self/fd/1"):
+            came = self.query(f"TRUSTED -o {name} 'SELECT * FROM orders' >> rows", (), "echo before > rows; ")
+            self.assertEqual((came.returncode, self.text("rows")), (0, b"before\n" + ORDERS), came.stderr)
+        with open(self.path("held"), "wb") as file:
+            name = f"/proc/{os.getpid()}/fd/{file.fileno()}"
+            self.assert_ends(self.query(f"TRUSTED -o {name} 'SELECT 1'", ("--record", "sent")), 2, b"", f"{name}: another process has this file open")
+        self.assertFalse(os.path.exists(self.path("sent")))
+
+    def test_a_name_of_what_is_opened_later(self) -> None:
+        """A descriptor that was closed when the command began is none: the connection or a pipe to the program may have its number."""
+        for option in ("--packets", "-o"):
+            for number in range(3, 10):
+                came = self.query(f"TRUSTED {option} /dev/fd/{number} 'SELECT * FROM orders'", ("--record", "sent"))
+                self.assert_ends(came, 5, b"", f"descriptor {number} is closed")
+        self.assertFalse(os.path.exists(self.path("sent")))
+
     def test_names_that_get_too_long(self) -> None:
         """Of ten outputs the last has a name that is too long until its text is whole: nothing is sent."""
         came = ask_port(1, "-o", "n" * 246 + "{}", *["SELECT 1"] * 10, cwd=self.folder)

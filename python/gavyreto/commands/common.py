@@ -4,6 +4,7 @@ from __future__ import annotations
 import argparse
 import codecs
 import contextlib
+import fcntl
 import os
 import re
 import signal
@@ -23,6 +24,8 @@ SIGNALS = (signal.SIGINT, signal.SIGTERM, signal.SIGHUP)  # which end a command,
 STREAMS = ("standard input", "standard output", "standard error")
 LONGEST_HEAD = 4096  # bytes by which a file is known
 MOST_LINKS = 40  # of a name, one after the other, as Linux follows
+OF_DESCRIPTORS = "(/proc/[0-9]+)(?:/task/[0-9]+)?/fd"  # folders in which a name is a descriptor of a process
+TWO_PLACES = "are one file, opened twice: one would be written over the other; 2>&1 or >> doesn't"
 CAPTURE = "a capture of the network: gavyreto capture reads it"
 BEGINNINGS = {
     b"\xD4\xC3\xB2\xA1": CAPTURE, b"\xA1\xB2\xC3\xD4": CAPTURE, b"\x4D\x3C\xB2\xA1": CAPTURE, b"\xA1\xB2\x3C\x4D": CAPTURE,
@@ -141,23 +144,44 @@ def open_descriptors() -> None:
 
 
 def needed(number: int) -> int:
-    """A descriptor of standard input or output. Raises `Stopped` if it was closed when the command began."""
-    if number in _closed:
-        raise Stopped(f"{STREAMS[number]} is closed", FAILED)
-    return number
+    """A descriptor that was open when the command began. Raises `Stopped` if it wasn't: those that are opened later aren't inherited."""
+    with contextlib.suppress(OSError):
+        if number not in _closed and os.get_inheritable(number):
+            return number
+    raise Stopped(f"{STREAMS[number] if number < len(STREAMS) else f'descriptor {number}'} is closed", FAILED)
 
 
 def opened_by(path: str) -> Optional[int]:
-    """The open descriptor that a name stands for, as /dev/stdout and /dev/fd/3 do; None if it is that of a file."""
-    own = os.path.realpath("/proc/self/fd")
+    """The open descriptor that a name stands for, as /dev/stdout and /dev/fd/3 do; None if it is that of a file. Raises `Stopped` for a
+    file that another process has open."""
+    own = os.path.realpath("/proc/self")
     for _ in range(MOST_LINKS):
         folder, name = os.path.split(path)
-        if name.isdecimal() and os.path.realpath(folder) == own:
+        process = re.fullmatch(OF_DESCRIPTORS, os.path.realpath(folder)) if name.isdecimal() else None
+        if process and process[1] == own:
             return needed(int(name))
+        if process and os.path.isfile(path):
+            raise Stopped(f"{path}: another process has this file open", REFUSED)
         if not os.path.islink(path):
             break
         path = os.path.join(folder, os.readlink(path))
     return None
+
+
+def check_streams() -> None:
+    """Raises `Stopped` if lines would be written over what is on standard output."""
+    if are_two_places(STANDARD_OUTPUT, STANDARD_ERROR):
+        raise Stopped(f"{STREAMS[STANDARD_OUTPUT]} and {STREAMS[STANDARD_ERROR]} {TWO_PLACES}", REFUSED)
+
+
+def are_two_places(one: int, other: int) -> bool:
+    """Whether two descriptors write over each other: they are of one file, and neither share its place nor append both."""
+    if not is_one_file(one, other) or all(fcntl.fcntl(it, fcntl.F_GETFL) & os.O_APPEND for it in (one, other)):
+        return False
+    before = [os.lseek(it, 0, os.SEEK_CUR) for it in (one, other)]
+    after = [os.lseek(one, 1, os.SEEK_CUR), os.lseek(other, 0, os.SEEK_CUR)]
+    os.lseek(one, before[0], os.SEEK_SET)
+    return before[0] != before[1] or after[0] != after[1]
 
 
 def open_response(name: str) -> BufferedReader:
@@ -202,12 +226,12 @@ def _is_text(head: bytes) -> bool:
 
 
 def is_one_file(path: Union[str, int], other: Union[str, int]) -> bool:
-    """Whether two names, or a name and a descriptor, are one file. A device or a pipe is read and written without harm."""
+    """Whether two names or descriptors are one file. A device or a pipe is read and written without harm."""
     try:
-        found, read = os.stat(path), os.stat(other)
+        found, another = os.stat(path), os.stat(other)
     except OSError:
         return False
-    return stat.S_ISREG(found.st_mode) and os.path.samestat(found, read)
+    return stat.S_ISREG(found.st_mode) and os.path.samestat(found, another)
 
 
 def put(text: str) -> None:

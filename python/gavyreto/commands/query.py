@@ -21,10 +21,8 @@ from __future__ import annotations
 
 import argparse
 import codecs
-import contextlib
 import os
 import re
-import stat
 import sys
 import time
 from itertools import chain
@@ -34,17 +32,17 @@ from gavyreto import connection, program, tds
 from gavyreto.asking import Asking, Interrupt
 from gavyreto.commands import common
 from gavyreto.commands.common import (
-    STANDARD_INPUT, STANDARD_OUTPUT, STREAMS, Stopped, add_options_of_program, cause_of, checked_program, is_one_file, needed,
-    number_in, opened_by, parser_of, tell_all,
+    STANDARD_INPUT, STANDARD_OUTPUT, STREAMS, Stopped, add_options_of_program, cause_of, checked_program, is_one_file, needed, number_in, parser_of,
+    tell_all,
 )
 from gavyreto.connection import Secret, Session
 from gavyreto.logins import LONGEST_TOKEN
+from gavyreto.places import Opened, Places
 from gavyreto.program import DONE, FAILED, REFUSED, SERVER_ERROR, Ending, Program
 from gavyreto.where import PORT, Where, where
 
 OF_PASSWORD, OF_TOKEN = "SQLCMDPASSWORD", "SQLCMDACCESSTOKEN"  # variables
 SEPARATOR = b"\r\n"
-PARTIAL = ".partial"  # behind the name of a text that isn't whole
 GO = re.compile(r"\s*GO(?:\s+(\d+))?\s*;?\s*(?:--.*)?", re.IGNORECASE | re.ASCII | re.DOTALL)
 MOST_TIMES = 2**31 - 1  # that a GO sends a statement
 SECONDS_OF_PROGRESS = 0.5  # between two lines, at least
@@ -143,52 +141,9 @@ def check(found: list[Batch], asked: argparse.Namespace) -> None:
     count = sum(batch.times for batch in found)
     if count > 1 and any("{}" not in it for it in templates_of(asked)):
         raise Stopped(f"{count} statements, and one output: a name with {{}} gets the number of each", REFUSED)
-    names = Names(asked)
+    places = Places(asked)
     for number in range(1, min(count, CHECKED_OUTPUTS) + 1):
-        for path in (path_of(it, number) for it in templates_of(asked)):
-            names.take(path)
-            if not is_writable(path):
-                raise Stopped(f"{path}: can't be written", FAILED)
-
-
-def is_writable(path: str) -> bool:
-    """Whether an output can be opened, as far as that is known before: a descriptor or what is no regular file itself, else the file
-    beside it."""
-    if opened_by(path) is not None:
-        return True
-    real = os.path.realpath(path)
-    if os.path.lexists(real) and not (os.path.isfile(real) and os.access(real, os.W_OK)):
-        return not os.path.isdir(real) and os.access(real, os.W_OK)
-    try:
-        os.lstat(real + PARTIAL)
-    except FileNotFoundError:
-        pass
-    except OSError:  # its name is too long, or its folder is none
-        return False
-    return os.access(os.path.dirname(real), os.W_OK)
-
-
-class Names:
-    """The names of files that are written, of which no two may be one file, and none one from which statements are read; also by the name
-    that each has until it is whole."""
-
-    def __init__(self, asked: argparse.Namespace) -> None:
-        self._asked = asked
-        self._links: dict[str, str] = {}  # what names lead to, and the first of them: of the first names, and of all that are links
-
-    def take(self, path: str) -> None:
-        """Takes the next name of an output. Raises `Stopped` if it may not be written."""
-        for source in self._asked.input or ([] if self._asked.statements else ["-"]):
-            for name in (path, path + PARTIAL):
-                if is_one_file(name, STANDARD_INPUT if source == "-" else source):
-                    raise Stopped(f"{name}: the statements are read from it", REFUSED)
-        if not self._asked.output and is_one_file(path, STANDARD_OUTPUT):
-            raise Stopped(f"{path}: the rows are written to it", REFUSED)
-        real = os.path.realpath(path)
-        keeps = os.path.islink(path) or len(self._links) < 2 * CHECKED_OUTPUTS
-        other = self._links.setdefault(real, path) if keeps else self._links.get(real, path)
-        if other != path:
-            raise Stopped(f"{other} and {path} are one file", REFUSED)
+        places.take(number)
 
 
 def encoded(statement: str) -> bytes:
@@ -199,74 +154,6 @@ def encoded(statement: str) -> bytes:
 
 
 # Answers.
-
-def path_of(template: str, number: int) -> str:
-    return template.replace("{}", str(number))
-
-
-class Outputs:
-    """Where texts or packets go: to standard output, or each to a file, which has its name with .partial behind it until it is whole."""
-
-    def __init__(self, template: Optional[str], names: Names) -> None:
-        self._template, self._names = template, names
-        self._is_begun = False  # whether standard output has a text
-        self._path = self._waiting = ""
-        self._descriptor = STANDARD_OUTPUT
-
-    def open(self, number: int) -> program.Output:
-        """The output for the answer to a statement."""
-        if not self._template:
-            return program.Output(STANDARD_OUTPUT, SEPARATOR if self._is_begun else b"")
-        path = path_of(self._template, number)
-        self._names.take(path)
-        opened = opened_by(path)
-        self._path, self._waiting = path if opened is not None else os.path.realpath(path), ""
-        try:
-            self._descriptor = self._opened() if opened is None else os.dup(opened)
-        except OSError as failure:
-            raise Stopped(f"{path}: {cause_of(failure)}", FAILED) from None
-        return program.Output(self._descriptor)
-
-    def _opened(self) -> int:
-        """A file beside the one that it will replace; what is no regular file, as a pipe or a device, itself."""
-        try:
-            mode = os.stat(self._path).st_mode
-        except FileNotFoundError:
-            mode = 0
-        if mode and not stat.S_ISREG(mode):
-            return os.open(self._path, os.O_WRONLY | os.O_CLOEXEC)
-        self._waiting = self._path + PARTIAL
-        with contextlib.suppress(FileNotFoundError):
-            os.remove(self._waiting)
-        descriptor = os.open(self._waiting, os.O_WRONLY | os.O_CREAT | os.O_EXCL | os.O_CLOEXEC, 0o666)
-        if mode:
-            os.chmod(descriptor, stat.S_IMODE(mode))
-        return descriptor
-
-    def name(self) -> str:
-        """The name of the output, for a line."""
-        return STREAMS[STANDARD_OUTPUT] if self._descriptor == STANDARD_OUTPUT else self._path
-
-    def write(self, data: bytes) -> None:
-        """Writes bytes. Raises `Stopped` if that fails."""
-        try:
-            program.write_all(self._descriptor, data)
-        except OSError as failure:
-            raise Stopped(f"{self._path}: {cause_of(failure)}", FAILED) from None
-
-    def close(self, is_whole: bool, has_text: bool = False) -> None:
-        """The text is there, or the packets. If they are whole their file gets its name."""
-        self._is_begun = self._is_begun or has_text
-        if self._descriptor == STANDARD_OUTPUT:
-            return
-        os.close(self._descriptor)
-        self._descriptor = STANDARD_OUTPUT
-        if self._waiting and is_whole:
-            try:
-                os.replace(self._waiting, self._path)
-            except OSError as failure:
-                raise Stopped(f"{self._path}: {cause_of(failure)}", FAILED) from None
-
 
 class Progress:
     """A line on a terminal, which says how much of an answer has come, as long as it comes; none where the rows go there."""
@@ -293,29 +180,26 @@ class Progress:
 
 def ask(asked: argparse.Namespace, statements: Iterator[str], password: str) -> int:
     """Sends the statements, each once the answer before it is read. Returns the first status that isn't 0, or 0."""
-    names, progress = Names(asked), Progress(asked)
-    texts, packets = Outputs(asked.output, names), Outputs(asked.packets, names) if asked.packets else None
-    first = texts.open(1)  # before the login: a pipe may have no reader yet
+    places, progress, has_text = Places(asked), Progress(asked), False
+    outputs = [Opened(it) for it in places.take(1)]  # before the login: a pipe may have no reader yet
     try:
         with session_of(asked, password) as session, Program(program.command_of(
                 asked.program, session.packet_size, asked.column_room, program.MAX_WIRE, asked.charset)) as run:
-            asking = Asking(session, run, asked.charset if asked.adapt else None, packets.write if packets else None, Interrupt(session))
+            asking = Asking(session, run, asked.charset if asked.adapt else None, Interrupt(session))
             for number, statement in enumerate(statements, 1):
                 encoded(statement)
-                output = first if number == 1 else texts.open(number)
-                if packets:
-                    packets.open(number)
+                outputs = outputs if number == 1 else [Opened(it) for it in places.take(number)]
                 progress.begin(number)
-                ending = answered(asking, statement, output, texts, packets, progress)
+                ending = answered(asking, statement, outputs, SEPARATOR if has_text else b"", progress)
+                has_text = has_text or not asked.output and ending.written > 0
                 tell_all(ending.notes)
                 if ending.status:
                     return ending.status
             session.end()
         return DONE
     finally:
-        texts.close(False)
-        if packets:
-            packets.close(False)
+        for output in outputs:
+            output.close(False)
 
 
 def ask_tables(asked: argparse.Namespace, password: str) -> int:
@@ -336,19 +220,18 @@ def ask_tables(asked: argparse.Namespace, password: str) -> int:
     return tables.export(asked, items, lambda: session_of(asked, password))
 
 
-def answered(
-    asking: Asking, statement: str, output: program.Output, texts: Outputs, packets: Optional[Outputs], progress: Progress,
-) -> Ending:
-    """How the answer to a statement ends. Its text and its packets get their names if they are whole."""
+def answered(asking: Asking, statement: str, outputs: list[Opened], before: bytes, progress: Progress) -> Ending:
+    """How the answer to a statement ends. Its text, behind other bytes, and its packets get their names if they are whole."""
+    rows, *packets = outputs
     try:
-        ending = asking.answer(statement, output, progress.came)
+        ending = asking.answer(statement, program.Output(rows.descriptor, before), progress.came, packets[0].write if packets else None)
     except program.OutputFailed as failed:
-        raise Stopped(f"{texts.name()}: {cause_of(failed.failure)}", FAILED) from None
+        raise Stopped(f"{rows.name}: {cause_of(failed.failure)}", FAILED) from None
     finally:
         progress.end()
-    texts.close(ending.status in (DONE, SERVER_ERROR), ending.written > 0)
-    if packets:
-        packets.close(asking.is_whole())
+    rows.close(ending.status in (DONE, SERVER_ERROR))
+    for it in packets:
+        it.close(asking.is_whole())
     return ending
 
 
@@ -429,12 +312,6 @@ def words_of(found: Where) -> list[str]:
     named = [("user", found.user), ("database", found.database), *found.options]
     words = [f"--{name}={value}" for name, value in named if value and name != "trust-server"]
     return words + ["--trust-server"] * found.trusts()
-
-
-def are_apart(*templates: str) -> bool:
-    """Whether names in which {} stands for a number are those of different files, whatever the numbers, also until these are whole."""
-    one, other = (re.sub(r"(\{\}|[0-9])+", "{}", os.path.realpath(it)) for it in templates)
-    return other not in (one, one + PARTIAL) and one != other + PARTIAL
 
 
 def seconds_of_login() -> int:
@@ -518,8 +395,6 @@ def wrong_in(asked: argparse.Namespace) -> str:
         return "--tables has the statements, and keeps no packets"
     if asked.packets == "-":
         return "packets aren't text: --packets needs a FILE"
-    if asked.packets and asked.output and not are_apart(asked.packets, asked.output):
-        return "--packets and -o could be one file: give them different names"
     return ""
 
 
