@@ -12,7 +12,7 @@ import time
 from typing import Any, Generic, Iterable, Iterator, Optional, Protocol, Sequence, TypeVar, Union
 
 from gavyreto import program
-from gavyreto.commands.common import Stopped, cause_of, line, say, tell
+from gavyreto.commands.common import STANDARD_ERROR, Stopped, cause_of, is_one_file, line, say, tell
 from gavyreto.program import BAD_INPUT, DONE, FAILED, REFUSED, SERVER_ERROR
 from gavyreto.records import record_at
 from gavyreto.values import value_of
@@ -92,6 +92,10 @@ class Table(Generic[L]):
     def begin(self, again: set[str], names: Iterable[str]) -> None:
         """Leaves out the lines of what is to be done again, and of texts by these names, and goes on behind the others."""
         texts = {name + end for name in names for end in (TEXT, PARTIAL)}
+        own = (TABLE, *texts) if is_one_file(STANDARD_ERROR, STANDARD_ERROR) else ()
+        for name in own:
+            if is_one_file(os.path.join(self._folder, name), STANDARD_ERROR):
+                raise Stopped(f"{name}: the lines are written to it", REFUSED)
         self.records = {key: record for key, record in self.records.items() if key not in again and record.text not in texts}
         with open(self._path + UNFINISHED, "wb") as out:
             out.write(self._header + b"".join(map(_line_of, self.records.values())))

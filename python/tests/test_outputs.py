@@ -10,15 +10,17 @@ import fcntl
 import os
 import random
 import re
+import subprocess
 import sys
 import tempfile
 import traceback
 import unittest
 from collections import Counter
-from typing import NamedTuple, Union
+from typing import Any, NamedTuple, Union
 
 from gavyreto.__main__ import main
-from tests.beside import ORDERS, PROGRAM, Live
+from gavyreto.commands.common import TWO_PLACES
+from tests.beside import ORDERS, PROGRAM, Live, started
 from tests.test_query import SETS
 
 QUERIES, OTHERS = 200, 80  # cases
@@ -28,6 +30,7 @@ OF_DESCRIPTORS = ["/dev/stdout", "/dev/stderr", "/dev/fd/1", "/dev/fd/3", "/proc
 WAYS = {">": os.O_WRONLY | os.O_CREAT | os.O_TRUNC, ">>": os.O_WRONLY | os.O_CREAT | os.O_APPEND, "<": os.O_RDONLY}
 STATEMENTS = ["SELECT * FROM orders", "SELECT * FROM sets"]
 LINES_OF = [f"sets {sets} rows 3 errors 0 infos 0 written {len(text)}\n".encode() for sets, text in ((1, ORDERS), (3, SETS))]
+PCAP = b"\xD4\xC3\xB2\xA1\2\0\4\0" + bytes(8) + b"\xFF\xFF\0\0\1\0\0\0"  # a capture without frames
 ROWS, PACKETS, LINES = "rows", "packets", "lines"
 Object = tuple[str, object]  # a file by its inode, or by its name
 Seen = dict[str, Union[str, bytes]]
@@ -341,6 +344,51 @@ class Outputs(Live):
         texts = [(rows, self.text(name), line) for rows, name, line in zip((ORDERS, SETS), ("orders.tds", "sets.tds"), LINES_OF)]
         os.environ.update(SQLCMDPASSWORD="secret", GAVYRETO_TRACEBACK="1")
         self.run_cases("query", QUERIES, texts, self.server(("--encrypt", "none")).variables["PORT"])
+
+    def test_outputs_of_adapt_and_columns(self) -> None:
+        for command in ("adapt", "columns"):
+            whole = self.beside((), f"exec {sys.executable} -m gavyreto {command} < float.tds")
+            self.assertEqual((whole.returncode, whole.stderr), (0, b""))
+            self.run_cases(command, OTHERS, [(whole.stdout, b"", b"")], response=self.text("float.tds"))
+
+    def test_an_input_of_other_commands_is_no_output(self) -> None:
+        """Nothing changes but that standard error has one line, where a shell has put it."""
+        for words, error, line in (
+            ("capture in.pcap out >> in.pcap", "", "standard output: the capture is read from it"),
+            ("capture - out < in.pcap", ">> in.pcap", "standard error: the capture is read from it"),
+            ("many in.tds out", ">> in.tds", "standard error: a response is read from it"),
+            ("many other done", "> done/other.csv.partial", "other.csv.partial: the lines are written to it"),
+            ("many other done", ">> done/outcomes.csv", "outcomes.csv: the lines are written to it"),
+            ("query -S h -E --tables in.txt -o done", ">> in.txt", "standard error: the statements are read from it"),
+            ("query -S h -E --tables - -o done < done/one.csv", "", "- would be the text of one: name another folder"),
+            ("adapt -o new in.tds", ">> new", "new: the lines are written to it"),
+            ("columns in.tds >> new", "> new", f"standard output and standard error {TWO_PLACES}"),
+        ):
+            with self.subTest(words=words, error=error), tempfile.TemporaryDirectory() as path:
+                for name, data in (("in.pcap", PCAP), ("in.tds", self.text("orders.tds")), ("in.txt", b"one SELECT 1\n"), ("other", b"\4")):
+                    with open(os.path.join(path, name), "wb") as file:
+                        file.write(data)
+                begun = f"touch new; $GAVYRETO many --program \"$PROGRAM\" in.tds done 2> first; cp in.txt done/one.csv; : {error or '> errors'}"
+                subprocess.run(["sh", "-ec", begun], cwd=path, check=True, **asking())
+                before, name = texts_in(path), error.split()[-1] if error else "errors"
+                command, *rest = words.split(" ", 1)
+                program = "" if command in ("adapt", "columns") else '--program "$PROGRAM"'
+                came = subprocess.run(["sh", "-c", f"$GAVYRETO {command} {program} {rest[0]} 2{error or '> errors'}"], cwd=path, check=False, **asking())
+                self.assertEqual((came.returncode, texts_in(path)), (2, before | {name: before[name] + line.encode() + b"\n"}))
+
+
+def asking() -> dict[str, Any]:
+    return started(GAVYRETO=f"{sys.executable} -m gavyreto", PROGRAM=PROGRAM)
+
+
+def texts_in(path: str) -> dict[str, bytes]:
+    """The texts of a folder and those in it, by their paths from there."""
+    files = [os.path.join(folder, name) for folder, _, names in os.walk(path) for name in names]
+    found = {}
+    for it in files:
+        with open(it, "rb") as file:
+            found[os.path.relpath(it, path)] = file.read()
+    return found
 
 
 if __name__ == "__main__":

@@ -13,7 +13,7 @@ import argparse
 import os
 
 from gavyreto.adapting import Adapter
-from gavyreto.commands.common import STANDARD_OUTPUT, STREAMS, Stopped, cause_of, is_one_file, needed, open_response, opened_by, parser_of
+from gavyreto.commands.common import STANDARD_ERROR, STANDARD_OUTPUT, STREAMS, Stopped, cause_of, is_one_file, needed, open_response, opened_by, parser_of
 from gavyreto.program import BAD_INPUT, CHARSETS, FAILED, REFUSED, write_all
 
 
@@ -31,8 +31,10 @@ def adapt(asked: argparse.Namespace) -> None:
     if not asked.output and os.isatty(STANDARD_OUTPUT):
         raise Stopped(f"{name} is a terminal, and packets aren't text: > FILE or -o FILE takes them", REFUSED)
     with open_response(asked.file) as source:
-        if is_one_file(asked.output or STANDARD_OUTPUT, source.fileno()):
+        if asked.output and is_one_file(asked.output, source.fileno()):
             raise Stopped(f"{name}: the response is read from it", REFUSED)
+        if asked.output and opened is None and is_one_file(asked.output, STANDARD_ERROR):
+            raise Stopped(f"{name}: the lines are written to it", REFUSED)
         try:
             target = os.open(asked.output, os.O_WRONLY | os.O_CREAT | os.O_TRUNC, 0o666) if opened is None else opened
         except OSError as failure:

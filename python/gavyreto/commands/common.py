@@ -189,6 +189,7 @@ def open_response(name: str) -> BufferedReader:
     shown = STREAMS[STANDARD_INPUT] if name == "-" else name
     try:
         file = open(needed(STANDARD_INPUT) if name == "-" else name, "rb", closefd=name != "-")
+        check_input(file.fileno(), "the response is")
         head = file.peek(LONGEST_HEAD)
     except OSError as failure:
         raise Stopped(f"{shown}: {cause_of(failure)}", FAILED) from None
@@ -232,6 +233,13 @@ def is_one_file(path: Union[str, int], other: Union[str, int]) -> bool:
     except OSError:
         return False
     return stat.S_ISREG(found.st_mode) and os.path.samestat(found, another)
+
+
+def check_input(source: Union[str, int], what: str) -> None:
+    """Raises `Stopped` if what is written to standard output or error would get into what is read."""
+    for number in (STANDARD_OUTPUT, STANDARD_ERROR):
+        if is_one_file(number, source):
+            raise Stopped(f"{STREAMS[number]}: {what} read from it", REFUSED)
 
 
 def put(text: str) -> None:

@@ -22,7 +22,7 @@ from types import TracebackType
 from typing import Any, Iterator, NamedTuple, Optional, Union
 
 from gavyreto import outcomes, program
-from gavyreto.commands.common import Stopped, add_options_of_program, cause_of, checked_program, number_in, parser_of
+from gavyreto.commands.common import STANDARD_ERROR, STREAMS, Stopped, add_options_of_program, cause_of, checked_program, number_in, parser_of
 from gavyreto.exporting import Outcome, Stamp, end_all, export_file, stamp_of, version_of
 from gavyreto.outcomes import PARTIAL, TABLE, TEXT, Kinds, Progress, locked, remove_unfinished, summed
 from gavyreto.program import DONE, FAILED, INTERRUPTED, REFUSED, SERVER_ERROR
@@ -66,6 +66,8 @@ class Table(outcomes.Table[Record]):
         """Refuses files whose text has the name of the table, or of a text of another file."""
         of = {record.text: record.file for record in self.records.values() if record.text}
         inputs = {inode for inode in map(_inode_of, files) if inode}
+        if _inode_of(STANDARD_ERROR) in inputs:
+            raise Stopped(f"{STREAMS[STANDARD_ERROR]}: a response is read from it", REFUSED)
         for file in files:
             name = os.path.basename(file)
             if name + TEXT == TABLE:
@@ -94,7 +96,7 @@ class Table(outcomes.Table[Record]):
         self.add(Record(outcome.file, outcome.status, outcome.line, text, outcome.written, *outcome.stamp, self._options, outcome.program))
 
 
-def _inode_of(path: str) -> Optional[tuple[int, int]]:
+def _inode_of(path: Union[str, int]) -> Optional[tuple[int, int]]:
     """What a file is, whatever names it has; None if there is none."""
     try:
         found = os.stat(path)

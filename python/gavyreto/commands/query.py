@@ -32,7 +32,7 @@ from gavyreto import connection, program, tds
 from gavyreto.asking import Asking, Interrupt
 from gavyreto.commands import common
 from gavyreto.commands.common import (
-    STANDARD_INPUT, STANDARD_OUTPUT, STREAMS, Stopped, add_options_of_program, cause_of, checked_program, is_one_file, needed, number_in, parser_of,
+    STANDARD_INPUT, STANDARD_OUTPUT, STREAMS, Stopped, add_options_of_program, cause_of, check_input, checked_program, is_one_file, needed, number_in, parser_of,
     tell_all,
 )
 from gavyreto.connection import Secret, Session
@@ -211,9 +211,11 @@ def ask_tables(asked: argparse.Namespace, password: str) -> int:
             items = tables.items_of(lines_of(file, asked.tables), asked.tables)
     except OSError as failure:
         raise Stopped(f"{asked.tables}: {cause_of(failure)}", FAILED) from None
+    source = STANDARD_INPUT if asked.tables == "-" else asked.tables
+    check_input(source, "the statements are")
     for item in items:
         encoded(item.statement)
-        if any(is_one_file(os.path.join(asked.output, name), asked.tables) for name in tables.texts_of(item)):
+        if any(is_one_file(os.path.join(asked.output, name), source) for name in tables.texts_of(item)):
             raise Stopped(f"{asked.tables} would be the text of {item.name}: name another folder", REFUSED)
     password = password or password_of(asked)
     asked.options = f"-S {asked.server.host},{asked.server.port or asked.server.instance or PORT} -d {asked.database} --charset {asked.charset}{' --adapt' if asked.adapt else ''}"
