@@ -156,6 +156,13 @@ class Outputs(Live):
                 self.assert_ends(came, 5, b"", f"descriptor {number} is closed")
         self.assertFalse(os.path.exists(self.path("sent")))
 
+    def test_names_that_are_empty(self) -> None:
+        """As a variable leaves them that isn't set."""
+        for words in ("-o ''", "--packets ''", "-i ''", "--tables '' -o out"):
+            came = self.query(f"TRUSTED {words} 'SELECT 1'", ("--record", "sent"))
+            self.assertEqual((came.returncode, came.stdout, came.stderr.splitlines()[-1][-13:]), (2, b"", b"an empty name"))
+        self.assertFalse(os.path.exists(self.path("sent")))
+
     def test_names_that_get_too_long(self) -> None:
         """Of ten outputs the last has a name that is too long until its text is whole: nothing is sent."""
         came = ask_port(1, "-o", "n" * 246 + "{}", *["SELECT 1"] * 10, cwd=self.folder)

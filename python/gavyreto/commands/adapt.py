@@ -13,13 +13,13 @@ import argparse
 import os
 
 from gavyreto.adapting import Adapter
-from gavyreto.commands.common import STANDARD_ERROR, STANDARD_OUTPUT, STREAMS, Stopped, cause_of, is_one_file, needed, open_response, opened_by, parser_of
+from gavyreto.commands.common import STANDARD_ERROR, STANDARD_OUTPUT, STREAMS, Stopped, cause_of, is_one_file, named, needed, open_response, opened_by, parser_of
 from gavyreto.program import BAD_INPUT, CHARSETS, FAILED, REFUSED, write_all
 
 
 def arguments(words: list[str]) -> argparse.Namespace:
     parser = parser_of("adapt", __doc__)
-    parser.add_argument("-o", "--output", metavar="FILE", help="file to write (default: standard output)")
+    parser.add_argument("-o", "--output", metavar="FILE", type=named, help="file to write (default: standard output)")
     parser.add_argument("--charset", choices=CHARSETS, default=CHARSETS[0], help="character set of char and varchar within a sql_variant")
     parser.add_argument("file", metavar="FILE", nargs="?", default="-", help="the response (default, or -: standard input)")
     return parser.parse_args(words)

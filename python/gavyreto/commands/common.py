@@ -276,6 +276,13 @@ def parser_of(command: str, about: Optional[str], *, add_help: bool = True) -> a
     return Parser(prog=f"gavyreto {command}", description=about, formatter_class=Help, add_help=add_help, allow_abbrev=False)
 
 
+def named(text: str) -> str:
+    """A name of a file, which isn't empty: it is if a variable of a script isn't set."""
+    if not text:
+        raise argparse.ArgumentTypeError("an empty name")
+    return text
+
+
 def number_in(least: int, most: int) -> Callable[[str], int]:
     """A parser of numbers of a range, which have only decimal digits."""
     def number(text: str) -> int:
