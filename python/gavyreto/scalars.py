@@ -25,32 +25,6 @@ def decimal_text(units: int, scale: int) -> str:
     return ("-" if units < 0 else "") + digits[:point] + ("." + digits[point:] if scale else "")
 
 
-def _whole(data: bytes, _: int) -> str:
-    return str(int.from_bytes(data, "little", signed=len(data) > 1))
-
-
-def _bit(data: bytes, _: int) -> str:
-    return "1" if any(data) else "0"
-
-
-def _decimal(data: bytes, scale: int) -> str:
-    units = int.from_bytes(data[1:], "little")
-    return decimal_text(units if data[0] else -units, scale)
-
-
-def _money(data: bytes, _: int) -> str:
-    high, low = struct.unpack("<iI", data)
-    return decimal_text((high << 32) + low, MONEY_SCALE)
-
-
-def _small_money(data: bytes, _: int) -> str:
-    return decimal_text(int.from_bytes(data, "little", signed=True), MONEY_SCALE)
-
-
-def _guid(data: bytes, _: int) -> str:
-    return str(UUID(bytes_le=data))
-
-
 def _day(number: int, first: date = FIRST_DAY) -> str:
     """The date of a number of days since the first. Raises ValueError outside of the years 0001 to 9999."""
     try:
@@ -74,18 +48,6 @@ def _number(data: bytes) -> int:
     return int.from_bytes(data, "little")
 
 
-def _date(data: bytes, _: int) -> str:
-    return _day(_number(data))
-
-
-def _time(data: bytes, scale: int) -> str:
-    return _time_of(_number(data), scale)
-
-
-def _date_time2(data: bytes, scale: int) -> str:
-    return f"{_day(_number(data[-3:]))} {_time_of(_number(data[:-3]), scale)}"
-
-
 def _date_time_offset(data: bytes, scale: int) -> str:
     """Time and date in UTC and minutes, as the local time with its offset."""
     minutes, = struct.unpack("<h", data[-2:])
@@ -95,16 +57,6 @@ def _date_time_offset(data: bytes, scale: int) -> str:
     days, local = divmod(_number(data[-5:-2]) * day + units + minutes * 60 * 10**scale, day)
     sign = "-" if minutes < 0 else "+"
     return f"{_day(days)} {_time_of(local, scale)} {sign}{abs(minutes) // 60:02}:{abs(minutes) % 60:02}"
-
-
-def _small_date_time(data: bytes, _: int) -> str:
-    days, minutes = struct.unpack("<HH", data)
-    return f"{_day(days, DAY_1900)} {_clock(60 * minutes)}"
-
-
-def _old_date_time(data: bytes, _: int) -> str:
-    days, thirds = struct.unpack("<iI", data)
-    return f"{_day(days, DAY_1900)} {_clock(thirds // 300)}.{(10 * (thirds % 300) + 1) // 3:03}"
 
 
 def doubles(values: Sequence[float]) -> list[str]:
@@ -140,20 +92,35 @@ def _check_numbers(values: Sequence[float]) -> None:
         raise ValueError("a float or real that is no number")
 
 
-def _double(data: bytes, _: int) -> str:
-    return doubles(struct.unpack("<d", data))[0]
+def _whole(data: bytes, _: int) -> str:
+    return str(int.from_bytes(data, "little", signed=len(data) > 1))
 
 
-def _single(data: bytes, _: int) -> str:
-    return singles(struct.unpack("<f", data))[0]
+def _decimal(data: bytes, scale: int) -> str:
+    return decimal_text(_number(data[1:]) if data[0] else -_number(data[1:]), scale)
 
 
+def _old_date_time(data: bytes, _: int) -> str:
+    days, thirds = struct.unpack("<iI", data)
+    return f"{_day(days, DAY_1900)} {_clock(thirds // 300)}.{(10 * (thirds % 300) + 1) // 3:03}"
+
+
+# What makes the text of a value from its bytes and its scale.
 TEXTS: dict[int, Callable[[bytes, int], str]] = {
-    DataType.INT1: _whole, DataType.INT2: _whole, DataType.INT4: _whole, DataType.INT8: _whole, DataType.INTN: _whole, DataType.BIT: _bit,
-    DataType.BITN: _bit, DataType.DECIMAL: _decimal, DataType.NUMERIC: _decimal, DataType.MONEY: _money, DataType.MONEY4: _small_money,
-    DataType.GUID: _guid, DataType.DATE: _date, DataType.TIME: _time, DataType.DATETIME2: _date_time2,
-    DataType.DATETIMEOFFSET: _date_time_offset, DataType.DATETIME4: _small_date_time, DataType.DATETIME: _old_date_time,
-    DataType.FLT8: _double, DataType.FLT4: _single,
+    **dict.fromkeys((DataType.INT1, DataType.INT2, DataType.INT4, DataType.INT8, DataType.INTN), _whole),
+    **dict.fromkeys((DataType.BIT, DataType.BITN), lambda data, _: "1" if any(data) else "0"),
+    **dict.fromkeys((DataType.DECIMAL, DataType.NUMERIC), _decimal),
+    DataType.MONEY: lambda data, _: decimal_text(int.from_bytes(data[4:] + data[:4], "little", signed=True), MONEY_SCALE),
+    DataType.MONEY4: lambda data, _: decimal_text(int.from_bytes(data, "little", signed=True), MONEY_SCALE),
+    DataType.GUID: lambda data, _: str(UUID(bytes_le=data)),
+    DataType.DATE: lambda data, _: _day(_number(data)),
+    DataType.TIME: lambda data, scale: _time_of(_number(data), scale),
+    DataType.DATETIME2: lambda data, scale: f"{_day(_number(data[-3:]))} {_time_of(_number(data[:-3]), scale)}",
+    DataType.DATETIMEOFFSET: _date_time_offset,
+    DataType.DATETIME4: lambda data, _: f"{_day(_number(data[:2]), DAY_1900)} {_clock(60 * _number(data[2:]))}",
+    DataType.DATETIME: _old_date_time,
+    DataType.FLT8: lambda data, _: doubles(struct.unpack("<d", data))[0],
+    DataType.FLT4: lambda data, _: singles(struct.unpack("<f", data))[0],
 }
 
 
