@@ -9,7 +9,8 @@ import socket
 import sys
 import threading
 import time
-from typing import Any, Generic, Iterable, Iterator, Optional, Protocol, Sequence, TypeVar, Union
+from dataclasses import dataclass, fields
+from typing import Any, Generic, Iterable, Iterator, Optional, Sequence, TypeVar
 
 from gavyreto import program
 from gavyreto.commands.common import STANDARD_ERROR, Stopped, cause_of, is_one_file, line, say, tell
@@ -21,42 +22,36 @@ TABLE = "outcomes.csv"
 TEXT, PARTIAL = ".csv", ".csv.partial"  # behind the name of what a text is of
 UNFINISHED = ".unfinished"  # at the end of the name of a text that waits for its own
 LONGEST_LINE = 1 << 20  # characters of a line of the table, more than any has
-Kinds = Sequence[Union[type, tuple[type, ...]]]
+# What the values of a field may be, by its annotation.
+KINDS: dict[str, tuple[type, ...]] = {"str": (str,), "int": (int,), "Optional[str]": (str, type(None))}
 
 
-class Line(Protocol):
-    """A line of a table: what it is of, how that ended, and its text. NULL stands for a text that isn't there."""
+@dataclass
+class Record:
+    """A line of a table: what it is of, how that ended, and its text, None if it isn't there. A table adds what it was made of."""
 
-    @property
-    def status(self) -> int: ...
-
-    @property
-    def line(self) -> str: ...
-
-    @property
-    def text(self) -> Optional[str]: ...
-
-    @property
-    def written(self) -> int: ...
-
-    def key(self) -> str: ...
-
-    def __iter__(self) -> Iterator[Any]: ...
+    name: str
+    status: int
+    line: str
+    text: Optional[str]
+    written: int
 
 
-L = TypeVar("L", bound=Line)
+R = TypeVar("R", bound=Record)
 
 
-class Table(Generic[L]):
+class Table(Generic[R]):
     """The table of outcomes, and the texts that it tells of. Its lines are written whole."""
 
-    def __init__(self, folder: str, record: type[L], fields: Sequence[str], kinds: Kinds) -> None:
-        self._path, self._folder = os.path.join(folder, TABLE), folder
-        self._record, self._kinds, self._header = record, kinds, line(fields).encode()
+    def __init__(self, folder: str, record: type[R], of: str = "name") -> None:
+        """The table of a folder, whose first column has a name by what its lines are of."""
+        self._path, self._folder, self._record = os.path.join(folder, TABLE), folder, record
+        self._kinds = [KINDS[str(it.type)] for it in fields(record)]
+        self._header = line([of, *(it.name for it in fields(record)[1:])]).encode()
         self.records = self._read()
         self._descriptor = -1
 
-    def _read(self) -> dict[str, L]:
+    def _read(self) -> dict[str, R]:
         """The lines that are there, by what they are of, but for one at the end that isn't whole, since its writing was stopped."""
         if not os.path.lexists(self._path):
             left = next((name for name in os.listdir(self._folder) if name.endswith((TEXT, PARTIAL))), None)
@@ -69,18 +64,18 @@ class Table(Generic[L]):
                 records = self._records_in(file.read())
         if records is None:
             raise Stopped(f"{self._path} isn't a table of this command", REFUSED)
-        return {record.key(): record for record in records}
+        return {record.name: record for record in records}
 
-    def _records_in(self, data: bytes) -> Optional[list[L]]:
+    def _records_in(self, data: bytes) -> Optional[list[R]]:
         """The lines of a table, or None if it is another table."""
         if not data.startswith(self._header):
             return [] if not data else None
         text, at = data.decode("utf-8", "surrogateescape"), len(self._header)
-        records: list[L] = []
+        records: list[R] = []
         while at < len(text):
             try:
-                fields, after = record_at(text, at)
-                values = [value_of(field) for field in fields]
+                found, after = record_at(text, at)
+                values: list[Any] = [value_of(field) for field in found]
             except ValueError:
                 return records if len(text) - at < LONGEST_LINE else None
             if len(values) != len(self._kinds) or not all(isinstance(value, kind) for value, kind in zip(values, self._kinds)):
@@ -122,17 +117,17 @@ class Table(Generic[L]):
                 os.remove(os.path.join(self._folder, other))
         return text, why
 
-    def add(self, record: L) -> None:
+    def add(self, record: R) -> None:
         """Writes a line."""
         try:
             program.write_all(self._descriptor, _line_of(record))
         except OSError as failure:
             raise Stopped(f"{self._path}: {cause_of(failure)}", FAILED) from None
-        self.records[record.key()] = record
+        self.records[record.name] = record
 
 
-def _line_of(record: Line) -> bytes:
-    return line(record).encode("utf-8", "surrogateescape")
+def _line_of(record: Record) -> bytes:
+    return line(vars(record).values()).encode("utf-8", "surrogateescape")
 
 
 class Progress:
@@ -180,7 +175,7 @@ def remove_unfinished(folder: str) -> None:
                 os.remove(os.path.join(folder, name))
 
 
-def summed(what: str, records: Sequence[tuple[str, Line]], shown: str) -> int:
+def summed(what: str, records: Sequence[tuple[str, Record]], shown: str) -> int:
     """Says which failed first, by the names that are given, and how many ended in each way, and returns the greatest status."""
     statuses = [record.status for _, record in records]
     counts = [statuses.count(status) for status in (DONE, SERVER_ERROR, BAD_INPUT)]

@@ -8,6 +8,7 @@ import queue
 import re
 import threading
 import time
+from dataclasses import dataclass
 from typing import Callable, Generator, Iterable, NamedTuple, Optional, Union
 
 from gavyreto import outcomes, program
@@ -16,7 +17,7 @@ from gavyreto.commands.common import Stopped, cause_of, folder_of_texts, tell
 from gavyreto.connection import UNASKED, Session
 from gavyreto.errors import BadAnswer, CertificateRefused, ConnectionFailed, EncryptionRefused, LoginRefused
 from gavyreto.exporting import version_of
-from gavyreto.outcomes import PARTIAL, TABLE, TEXT, Kinds, Progress, locked, remove_unfinished, summed, waiting_in
+from gavyreto.outcomes import PARTIAL, TABLE, TEXT, Progress, locked, remove_unfinished, summed, waiting_in
 from gavyreto.program import BAD_INPUT, DONE, FAILED, INTERRUPTED, REFUSED, SERVER_ERROR, Program
 
 LONGEST_STATEMENT = 100_000  # characters
@@ -70,24 +71,14 @@ def _wrong_in(name: str, rest: str) -> str:
     return f"has a statement of more than {LONGEST_STATEMENT} characters" if len(rest) > LONGEST_STATEMENT else ""
 
 
-class Record(NamedTuple):
-    """A line of the table: how the export of a statement ended, and what it was made of. NULL stands for a text that isn't there."""
+@dataclass
+class Record(outcomes.Record):
+    """A line of the table: how the export of a statement ended, and what it was made of."""
 
-    name: str
-    status: int
-    line: str
-    text: Optional[str]
-    written: int
     time: int  #: at which it was begun, in nanoseconds since 1970
     statement: str
     options: str
     program: str
-
-    def key(self) -> str:
-        return self.name
-
-
-KINDS: Kinds = [str, int, str, (str, type(None)), int, int, str, str, str]  # of its fields
 
 
 class Outcome(NamedTuple):
@@ -266,7 +257,7 @@ class Workers:
 def export(asked: argparse.Namespace, items: list[Item], connect: Connect) -> int:
     """Exports the answer to each item, and returns the greatest status. The first login comes before anything is written."""
     with folder_of_texts(asked.output), locked(asked.output), contextlib.ExitStack() as stack:
-        table = outcomes.Table(asked.output, Record, Record._fields, KINDS)
+        table = outcomes.Table(asked.output, Record)
         workers, version = Workers(asked, connect, connect()), version_of(asked.program)
         names = {item.name for item in items}
         table.begin(names, names)

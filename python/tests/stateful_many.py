@@ -121,7 +121,7 @@ class Folder(RuleBasedStateMachine):
 
     def check_texts(self) -> None:
         """Each file has the text of an export by hand, and one name of it; each line of the table tells of it."""
-        lines = {record.file: record for record in self.lines()}
+        lines = {record.name: record for record in self.lines()}
         for name, content in self.files.items():
             status, text = WANTED[content]
             with open(os.path.join(self.out, text_of(name, content)), "rb") as file:

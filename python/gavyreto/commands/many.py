@@ -18,26 +18,23 @@ import os
 import re
 import time
 from concurrent.futures import FIRST_COMPLETED, Future, ThreadPoolExecutor, wait
+from dataclasses import dataclass
 from types import TracebackType
-from typing import Any, Iterator, NamedTuple, Optional, Union
+from typing import Any, Iterator, Optional, Union
 
 from gavyreto import outcomes, program
 from gavyreto.commands.common import STANDARD_ERROR, STREAMS, Stopped, add_options_of_program, cause_of, checked_program, number_in, parser_of
 from gavyreto.exporting import Outcome, Stamp, end_all, export_file, stamp_of, version_of
-from gavyreto.outcomes import PARTIAL, TABLE, TEXT, Kinds, Progress, locked, remove_unfinished, summed
+from gavyreto.outcomes import PARTIAL, TABLE, TEXT, Progress, locked, remove_unfinished, summed
 from gavyreto.program import DONE, FAILED, INTERRUPTED, REFUSED, SERVER_ERROR
 
 SECONDS_OF_SCHEDULER = 30  # the longest that it may be silent, or that its file is waited for
 
 
-class Record(NamedTuple):
-    """A line of the table: an outcome, and what it was made of. NULL stands for a text that isn't there."""
+@dataclass
+class Record(outcomes.Record):
+    """A line of the table: the outcome of a file, which it has the path of, and what it was made of."""
 
-    file: str
-    status: int
-    line: str
-    text: Optional[str]
-    written: int
     size: int
     time: int
     change: int
@@ -45,26 +42,20 @@ class Record(NamedTuple):
     options: str
     program: str
 
-    def key(self) -> str:
-        return self.file
-
     def stamp(self) -> Stamp:
         return Stamp(self.size, self.time, self.change, self.inode)
-
-
-KINDS: Kinds = [str, int, str, (str, type(None)), int, int, int, int, int, str, str]  # of its fields
 
 
 class Table(outcomes.Table[Record]):
     """The table of outcomes of files, by their paths."""
 
     def __init__(self, folder: str, options: str, version: str) -> None:
-        super().__init__(folder, Record, Record._fields, KINDS)
+        super().__init__(folder, Record, "file")
         self._options, self._version = options, version
 
     def check(self, files: list[str]) -> None:
         """Refuses files whose text has the name of the table, or of a text of another file."""
-        of = {record.text: record.file for record in self.records.values() if record.text}
+        of = {record.text: record.name for record in self.records.values() if record.text}
         inputs = {inode for inode in map(_inode_of, files) if inode}
         if _inode_of(STANDARD_ERROR) in inputs:
             raise Stopped(f"{STREAMS[STANDARD_ERROR]}: a response is read from it", REFUSED)
@@ -125,17 +116,12 @@ def files_of(asked: argparse.Namespace) -> list[str]:
 
 # Where the work is done.
 
-class Here:
+class Here(contextlib.nullcontext[None]):
     """This machine. A context, as a cluster is."""
 
     def __init__(self, jobs: int) -> None:
+        super().__init__()
         self._jobs = jobs
-
-    def __enter__(self) -> Here:
-        return self
-
-    def __exit__(self, *_: object) -> None:
-        pass
 
     def version(self, name: str) -> str:
         return version_of(name)
