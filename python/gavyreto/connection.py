@@ -2,6 +2,7 @@
 from __future__ import annotations
 
 import contextlib
+import functools
 import os
 import select
 import socket
@@ -13,7 +14,7 @@ from typing import Any, Callable, Iterator, NamedTuple, Optional, TypeVar, Union
 
 from gavyreto import tds
 from gavyreto.errors import BadAnswer, CertificateRefused, ConnectionFailed, EncryptionRefused, Error, LoginRefused, TimedOut
-from gavyreto.logins import Hidden, Proof, Proving, Way, checked_token
+from gavyreto.logins import Hidden, Proof, Proving, checked_token, proof_of
 from gavyreto.tds import Encryption, PacketType
 from gavyreto.where import BROWSER, port_of
 
@@ -432,7 +433,7 @@ def read_answer(channel: Channel) -> tds.Accepted:
 
 # Statements.
 
-class Session:
+class Session(contextlib.AbstractContextManager["Session"]):
     """A connection that is logged in: a statement is sent, and its answer handed on, one after the other. A context that closes it.
 
     Whatever goes wrong, an exception from elsewhere too, closes it for good: later calls raise ConnectionFailed, with what it was."""
@@ -445,9 +446,6 @@ class Session:
         self._framing: Optional[tds.Framing] = None  # of the answer under way
         self._unsent: Optional[OSError] = None  # what ended the sending of a statement whose answer may have come
         self._is_sending = self._is_interrupted = self._is_early = False  # early: before the statement was sent
-
-    def __enter__(self) -> Session:
-        return self
 
     def __exit__(self, *_: object) -> None:
         self.close()
@@ -598,20 +596,20 @@ def log_in_to(
         raise ValueError(f"encrypt is one of {', '.join(ENCRYPT)}, not {encrypt}")
     if integrated + (access_token is not None) + bool(user or password) > 1:
         raise ValueError("a login is by user and password, integrated, or by an access token: one of them")
-    way = Way(integrated, None if access_token is None else Secret(checked_token(access_token)))
+    proving = functools.partial(proof_of, integrated, None if access_token is None else Secret(checked_token(access_token)))
     host, _, instance = server.partition("\\")
     here = Server(host, port, certificate_name or host, encrypt, contexts_of(certificates, trust_server), seconds, login_seconds,
                   time.monotonic() + login_seconds, instance)
     login = tds.Login(socket.gethostname(), user, Secret(password), "gavyreto", server, "", "", database, packet_size)
     here = here.found()
-    channel, accepted = _session(here, login, way.proof_of)
+    channel, accepted = _session(here, login, proving)
     if accepted.routing:
         channel.close()
         host, port = accepted.routing
         here = here._replace(host=host, port=port)
         if len(host) > tds.MOST_UNITS:
             raise BadAnswer(f"the server redirects to a name of more than {tds.MOST_UNITS} characters")
-        channel, accepted = _session(here, login._replace(server=host), way.proof_of)
+        channel, accepted = _session(here, login._replace(server=host), proving)
         if accepted.routing:
             channel.close()
             raise ConnectionFailed(f"the server {host}, port {port}, to which another one redirects, redirects too")

@@ -2,7 +2,7 @@
 from __future__ import annotations
 
 import importlib
-from typing import Any, Callable, NamedTuple, Optional
+from typing import Any, Callable, Optional
 
 from gavyreto.errors import ConnectionFailed
 
@@ -84,17 +84,11 @@ class Kerberos(Proof):
             raise ConnectionFailed(f"the server didn't prove that it is {self._service}")
 
 
-class Way(NamedTuple):
-    """By which of the three a login is."""
-
-    integrated: bool = False
-    token: Optional[str] = None
-
-    def proof_of(self, host: str, port: int) -> Proof:
-        """What is shown to a server. Raises ValueError if it can't be made."""
-        if self.integrated:
-            return Kerberos(f"MSSQLSvc/{host}:{port}")
-        return AccessToken(self.token) if self.token is not None else Proof()
+def proof_of(integrated: bool, token: Optional[str], host: str, port: int) -> Proof:
+    """What is shown to a server, by which of the three a login is. Raises ValueError if it can't be made."""
+    if integrated:
+        return Kerberos(f"MSSQLSvc/{host}:{port}")
+    return AccessToken(token) if token is not None else Proof()
 
 
 def checked_token(token: str) -> str:

@@ -191,7 +191,7 @@ class Output:
         return len(data)
 
 
-class Program:
+class Program(contextlib.AbstractContextManager["Program"]):
     """The program, which exports one response after another. Of each its packets are handed over, and its text and its lines taken:
 
         program.begin()
@@ -214,9 +214,6 @@ class Program:
         self._open: set[int] = set()  # those of text and lines that haven't ended
         self._lines, self._taken, self._handed = "", 0, 0  # of this response
         self._said: Said = None  # once its lines have come
-
-    def __enter__(self) -> Program:
-        return self
 
     def __exit__(self, *_: object) -> None:
         self.close()

@@ -48,7 +48,7 @@ class Run:
         program.status_after(self._process)
 
 
-class Room:
+class Room(contextlib.AbstractContextManager["Room"]):
     """A folder for packets and texts, the bytes of all answers that are in memory, the program on the answer that has its pipe, and the
     one that goes on from answer to answer. A context that ends both."""
 
@@ -57,9 +57,6 @@ class Room:
         self._command, self._is_piping, self._count = command, is_piping, 0
         self._run: Optional[Run] = None
         self._program = program.Program(command)
-
-    def __enter__(self) -> Room:
-        return self
 
     def __exit__(self, *_: object) -> None:
         self._program.close()
