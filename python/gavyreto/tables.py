@@ -13,7 +13,7 @@ from typing import Callable, Generator, Iterable, NamedTuple, Optional, Union
 
 from gavyreto import outcomes, program
 from gavyreto.asking import Asking, Broken
-from gavyreto.commands.common import Stopped, cause_of, folder_of_texts, tell
+from gavyreto.commands.common import Stopped, cause_of, command_for, folder_of_texts, tell
 from gavyreto.connection import UNASKED, Session
 from gavyreto.errors import BadAnswer, CertificateRefused, ConnectionFailed, EncryptionRefused, LoginRefused
 from gavyreto.exporting import version_of
@@ -169,7 +169,7 @@ class Worker:
 
     def _asking(self, session: Session) -> Asking:
         """What asks on a connection."""
-        command = program.command_of(self._asked.program, session.packet_size, self._asked.column_room, program.MAX_WIRE, self._asked.charset)
+        command = command_for(self._asked, session.packet_size)
         if self._run is None or self._run.command != command:
             if self._run:
                 self._run.close()

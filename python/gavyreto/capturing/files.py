@@ -46,16 +46,7 @@ class Source:
         self._file = io.BufferedReader(cast(io.RawIOBase, file), BLOCK)
         if self._file.peek(2)[:2] == GZIP:
             self._file = io.BufferedReader(cast(io.RawIOBase, gzip.GzipFile(fileobj=self._file)), BLOCK)
-        self._head = self._first(HEAD)
-
-    def _first(self, length: int) -> bytes:
-        head = b""
-        while len(head) < length:
-            piece = self._some(length - len(head))
-            if not piece:
-                break
-            head += piece
-        return head
+        self._head = self._some(HEAD)
 
     def _some(self, length: int) -> bytes:
         return self._checked(self._file.read, length)

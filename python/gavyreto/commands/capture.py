@@ -28,7 +28,7 @@ from collections.abc import Iterable
 from datetime import datetime, timedelta, timezone
 from typing import Optional, cast
 
-from gavyreto import program, tds
+from gavyreto import tds
 from gavyreto.adapting import Adapter
 from gavyreto.capturing import dumps, files
 from gavyreto.capturing.accounts import Accounts
@@ -38,7 +38,7 @@ from gavyreto.capturing.keeping import Kept, Room
 from gavyreto.capturing.messages import is_header
 from gavyreto.capturing.progress import Progress
 from gavyreto.commands.common import (
-    SIGNALS, STANDARD_INPUT, Stopped, add_options_of_program, check_input, checked_program, folder_of_texts, line, needed, number_in, parser_of, put, say, tell,
+    SIGNALS, STANDARD_INPUT, Stopped, add_options_of_program, check_input, checked_program, command_for, folder_of_texts, line, needed, number_in, parser_of, put, say, tell,
 )
 from gavyreto.payload import Ended
 from gavyreto.program import BAD_INPUT, FAILED, REFUSED, SERVER_ERROR, Ending, judged
@@ -178,8 +178,7 @@ def capture(asked: argparse.Namespace) -> int:
         # A signal waits while the folder is made, and while it is removed, so that it doesn't leave it there.
         with Signals(signal.SIG_BLOCK, SIGNALS) as before, tempfile.TemporaryDirectory(
                 prefix="unfinished", dir=asked.out) as folder, Signals(signal.SIG_SETMASK, before), contextlib.ExitStack() as stack:
-            command = program.command_of(asked.program, program.PACKET_SIZE, asked.column_room, program.MAX_WIRE, asked.charset)
-            room = stack.enter_context(Room(folder, command, not asked.packets and not asked.adapt))
+            room = stack.enter_context(Room(folder, command_for(asked), not asked.packets and not asked.adapt))
             export, accounts = Export(asked, room), Accounts()
             if files.is_capture(source.head()):
                 take_capture(source, export, accounts, set(asked.port or [1433]), Progress(file, accounts, say))

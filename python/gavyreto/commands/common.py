@@ -300,6 +300,11 @@ def add_options_of_program(parser: argparse.ArgumentParser) -> None:
     parser.add_argument("--program", metavar="FILE", default=program.PROGRAM, help="the program tds_replay (default: the one on PATH)")
 
 
+def command_for(asked: argparse.Namespace, packet_size: int = program.PACKET_SIZE) -> list[str]:
+    """The command line of the program, by these options."""
+    return program.command_of(asked.program, packet_size, asked.column_room, program.MAX_WIRE, asked.charset)
+
+
 def checked_program(name: str) -> str:
     """The path of the program, which is there and is tds_replay."""
     try:

@@ -22,8 +22,8 @@ from dataclasses import dataclass
 from types import TracebackType
 from typing import Any, Iterator, Optional, Union
 
-from gavyreto import outcomes, program
-from gavyreto.commands.common import STANDARD_ERROR, STREAMS, Stopped, add_options_of_program, cause_of, checked_program, number_in, parser_of
+from gavyreto import outcomes
+from gavyreto.commands.common import STANDARD_ERROR, STREAMS, Stopped, add_options_of_program, cause_of, checked_program, command_for, number_in, parser_of
 from gavyreto.exporting import Outcome, Stamp, end_all, export_file, stamp_of, version_of
 from gavyreto.outcomes import PARTIAL, TABLE, TEXT, Progress, locked, remove_unfinished, summed
 from gavyreto.program import DONE, FAILED, INTERRUPTED, REFUSED, SERVER_ERROR
@@ -215,7 +215,7 @@ def export_all(asked: argparse.Namespace) -> int:
 
 
 def export_left(files: list[str], asked: argparse.Namespace) -> int:
-    command = program.command_of(asked.program, program.PACKET_SIZE, asked.column_room, program.MAX_WIRE, asked.charset)
+    command = command_for(asked)
     place: Union[Here, Cluster] = Cluster(asked.scheduler) if asked.scheduler else Here(asked.jobs)
     with place:
         options = " ".join([*command[2:], *(["--adapt"] if asked.adapt else [])])

@@ -183,8 +183,7 @@ def ask(asked: argparse.Namespace, statements: Iterator[str], password: str) -> 
     places, progress, has_text = Places(asked), Progress(asked), False
     outputs = [Opened(it) for it in places.take(1)]  # before the login: a pipe may have no reader yet
     try:
-        with session_of(asked, password) as session, Program(program.command_of(
-                asked.program, session.packet_size, asked.column_room, program.MAX_WIRE, asked.charset)) as run:
+        with session_of(asked, password) as session, Program(common.command_for(asked, session.packet_size)) as run:
             asking = Asking(session, run, asked.charset if asked.adapt else None, Interrupt(session))
             for number, statement in enumerate(statements, 1):
                 encoded(statement)
