@@ -49,28 +49,17 @@ def _unknown(following: int) -> Exception:
 
 # Links (the registry of link types of draft-ietf-opsawg-pcaplinktype). Each function reads one header, and returns what is next.
 
-def _ethernet(cursor: Cursor) -> int:
-    kind, = cursor.unpack(U16, 12)
-    cursor.at += 14
-    return _kind_of(kind)
+def _typed(place: int, size: int) -> Callable[[Cursor], int]:
+    """A header of so many bytes, which has a type of Ethernet at a place."""
+    def read(cursor: Cursor) -> int:
+        kind, = cursor.unpack(U16, place)
+        cursor.at += size
+        return _kind_of(kind)
+    return read
 
 
 def _kind_of(kind: int) -> int:
     return kind if kind >= LEAST_ETHER_TYPE else LOGICAL_LINK
-
-
-def _cooked(cursor: Cursor) -> int:
-    """Linux's cooked capture, version 1."""
-    kind, = cursor.unpack(U16, 14)
-    cursor.at += 16
-    return _kind_of(kind)
-
-
-def _cooked_2(cursor: Cursor) -> int:
-    """Its version 2, as `tcpdump -i any` writes it."""
-    kind, = cursor.unpack(U16)
-    cursor.at += 20
-    return _kind_of(kind)
 
 
 def _loopback(cursor: Cursor) -> int:
@@ -134,7 +123,8 @@ LINKS = {
     0: LOOPBACK, 108: LOOPBACK, ETHERNET: BRIDGED, 9: PPP, 50: PPP, 12: ANY_IP, 14: ANY_IP, 101: ANY_IP, 228: ANY_IP, 229: ANY_IP, 113: COOKED,
     276: COOKED_2}
 LAYERS: dict[int, Callable[[Cursor], int]] = {
-    BRIDGED: _ethernet, LOOPBACK: _loopback, PPP: _ppp, COOKED: _cooked, COOKED_2: _cooked_2, LOGICAL_LINK: _logical_link,
+    BRIDGED: _typed(12, 14), LOOPBACK: _loopback, PPP: _ppp, LOGICAL_LINK: _logical_link,
+    COOKED: _typed(14, 16), COOKED_2: _typed(0, 20),  # Linux's cooked capture, and its version 2, as `tcpdump -i any` writes it
     **dict.fromkeys(VLAN, _vlan), **dict.fromkeys(MPLS, _mpls), PPPOE_SESSION: _pppoe,
     ANY_IP: internet.any_ip, IPV4: internet.ipv4, IPV6: internet.ipv6, internet.IP_IN_IP: internet.ip_in_ip, internet.IPV6_IN_IP: internet.ip_in_ip,
     internet.UDP: internet.udp, internet.GRE: internet.gre, internet.AUTHENTICATION: internet.authentication}

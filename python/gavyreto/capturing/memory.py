@@ -66,8 +66,4 @@ class Share:
 
     def close(self) -> None:
         """Its connection has ended."""
-        self.shorten = _nothing
-
-
-def _nothing() -> None:
-    pass
+        self.shorten = lambda: None

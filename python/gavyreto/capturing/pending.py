@@ -101,13 +101,9 @@ class Pending:
 
     def close(self) -> None:
         """Nothing more comes."""
-        self._tell = _nothing
+        self._tell = lambda _: None
 
     def pass_all(self) -> None:
         """No request has an answer."""
         while self._requests:
             self.pass_first()
-
-
-def _nothing(_: Request) -> None:
-    pass
