@@ -92,16 +92,13 @@ class Asking:
                 pass  # what the program needs no more of is kept too
         except (ConnectionFailed, BadAnswer, Signalled) as error:
             failure = error
-        if failure or wrong or self._is_interrupted():
+        if failure or wrong or self._interrupt and self._interrupt.came:
             run.cut()
         return self._judged(run.finish(output), failure, wrong)
 
     def is_whole(self) -> bool:
         """Whether all of the last answer was read."""
         return self._session.is_ready()
-
-    def _is_interrupted(self) -> bool:
-        return self._interrupt is not None and self._interrupt.came
 
     def _judged(self, ending: Ending, failure: Optional[BaseException], wrong: str) -> Ending:
         """How an answer ended, by the program's ending, what came instead of the rest, and what can't be rewritten. Raises `Stopped`."""

@@ -198,7 +198,7 @@ class Answer(Response):
 
     def _hand_on(self, write: Write, found: Descriptions, first: bytes) -> bool:
         """Hands the answer to the program, and notes the descriptions that may be asked for. Returns whether it was whole."""
-        blocks = self._blocks(first, write if self._charset is None else _nothing)
+        blocks = self._blocks(first, write if self._charset is None else lambda _: None)
         read = Blocks(lambda: next(blocks, b"")).read
         if self._charset is not None:
             return adapt_all(Adapter(read, write, self._charset, found.add), found)
@@ -236,10 +236,6 @@ class Answer(Response):
             if self.owns or not self.is_whole:
                 self._session.close()
                 self._program.close()
-
-
-def _nothing(_: bytes) -> None:
-    pass
 
 
 def connect(

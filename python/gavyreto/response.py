@@ -179,7 +179,8 @@ def export(
     if adapt:
         return _adapted(source, command, dates, charset)
     if isinstance(source, (str, os.PathLike)):
-        return _of_path(source, command, dates)
+        with open(source, "rb", buffering=0) as file:
+            return _of_descriptor(file.fileno(), command, dates)
     if isinstance(source, (bytes, bytearray, memoryview)):
         return _of_bytes(bytes(source), command, dates)
     if type(source) in OF_DESCRIPTORS:
@@ -237,12 +238,6 @@ def adapt_all(adapter: Adapter, found: Descriptions) -> bool:
         raise BadAnswer(f"the response can't be followed: {wrong}") from None
     finally:
         found.end()
-
-
-def _of_path(path: Union[str, os.PathLike[str]], command: list[str], dates: Dates) -> Response:
-    """A response in a file or in a pipe with a name."""
-    with open(path, "rb", buffering=0) as file:
-        return _of_descriptor(file.fileno(), command, dates)
 
 
 def _of_descriptor(descriptor: int, command: list[str], dates: Dates) -> Response:

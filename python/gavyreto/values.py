@@ -35,16 +35,12 @@ def _float(field: str) -> float:
     return float(field)
 
 
-def _binary(field: str) -> bytes:
-    return bytes.fromhex(field.removeprefix("0x"))
-
-
 DAY, CLOCK, OFFSET = r"[0-9]{4}-[0-9]{2}-[0-9]{2}", r"[0-9]{2}:[0-9]{2}:[0-9]{2}", r" [+-][0-9]{2}:[0-9]{2}"
 GUID = "[0-9a-f]{8}(?:-[0-9a-f]{4}){3}-[0-9a-f]{12}"
 FLOATS = re.compile("[-+.0-9e]+")
 TEXT = Shape("text", r'"[^"]*(?:""[^"]*)*"', str, True)
 FLOAT = Shape("float", f'"{FLOATS.pattern}"', _float, True)
-BINARY = Shape("binary", "0x(?:[0-9a-f]{2})*", _binary)
+BINARY = Shape("binary", "0x(?:[0-9a-f]{2})*", lambda field: bytes.fromhex(field.removeprefix("0x")))
 INTEGER = Shape("integer", "-?[0-9]+", int)
 DECIMAL = re.compile(r"-?[0-9]+\.([0-9]+)")
 MOMENT = re.compile(rf"({DAY})?(?:(?(1) )({CLOCK})(?:\.([0-9]{{1,7}}))?)?({OFFSET})?")
