@@ -17,6 +17,7 @@ import traceback
 import unittest
 from collections import Counter
 from typing import Any, NamedTuple, Union
+from unittest import mock
 
 from gavyreto.__main__ import main
 from gavyreto.commands.common import TWO_PLACES
@@ -342,8 +343,8 @@ class Outputs(Live):
 
     def test_outputs_of_query(self) -> None:
         texts = [(rows, self.text(name), line) for rows, name, line in zip((ORDERS, SETS), ("orders.tds", "sets.tds"), LINES_OF)]
-        os.environ.update(SQLCMDPASSWORD="secret", GAVYRETO_TRACEBACK="1")
-        self.run_cases("query", QUERIES, texts, self.server(("--encrypt", "none")).variables["PORT"])
+        with mock.patch.dict(os.environ, SQLCMDPASSWORD="secret", GAVYRETO_TRACEBACK="1"):
+            self.run_cases("query", QUERIES, texts, self.server(("--encrypt", "none")).variables["PORT"])
 
     def test_outputs_of_adapt_and_columns(self) -> None:
         for command in ("adapt", "columns"):
