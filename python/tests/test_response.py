@@ -2,6 +2,7 @@
 from __future__ import annotations
 
 import bz2
+import gc
 import gzip
 import io
 import os
@@ -79,6 +80,7 @@ class SetsAndRows(unittest.TestCase):
         before = len(os.listdir("/proc/self/fd"))
         for _ in range(300):
             next(export(wire("kinds", 10)).only())
+        gc.collect()  # Python looks the more seldom for what isn't used, the more other tests have left
         for _ in range(100):  # Popen looks at those that still ran with each that is started
             all_of(export(wire("sets")))
             if len(os.listdir("/proc/self/fd")) < before + 15:
