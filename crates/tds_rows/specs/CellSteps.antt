@@ -9,7 +9,7 @@ use Rattle.tds_packet.specs.declared.fault.Fault.TheVariants.{BadValue}
 use Rattle.tds_packet.specs.declared.fault.Place.TheVariants.{Payload}
 use Rattle.tds_packet.specs.declared.fault.Stop.{Stop}
 use Rattle.tds_packet.specs.declared.payload.Payload as payloads
-use Rattle.tds_packet.specs.Payloads.{LeavesPayload, seen}
+use Rattle.tds_packet.specs.Payloads.{IsGoing, LeavesPayload, seen}
 use Rattle.tds_packet.specs.Reading.{StopsReading}
 use Rattle.tds_packet.specs.PayloadView.{PayloadView, Takes, IsBetween}
 use Rattle.tds_csv.specs.declared.sink.Sink.{Sink}
@@ -42,6 +42,12 @@ pub record GathersCell (kind : Kind) (from : CellPart) (column : ℕ) (old new :
 -- the most bytes that a cell of a scalar kind has: a length and a decimal
 abbrev pub longest_cell : ℕ
 longest_cell = 18
+
+-- A cell is to be gathered: the payload hands out bytes, and this area is empty and has room for the longest.
+pub record IsGathering {R : Type 0} (p : payloads.Payload R) (small : Space) : Type 0 where
+  pub payload : IsGoing p
+  pub empty : small.bytes ≡ []
+  pub room : longest_cell ≤ small.room
 
 -- The area in which cells are gathered has the room that it had, and held no more than before or than a cell.
 pub record LeavesSmall (before after : Space) : Type 0 where

@@ -20,6 +20,7 @@ use Rattle.tds_cells.specs.declared.nulls.Nulls.{Nulls}
 use Rattle.tds_cells.specs.declared.nulls.Nulls.TheVariants.{Marked, Unmarked}
 use Rattle.tds_rows.specs.LongCells.{CutsBytes}
 use Rattle.tds_cells.specs.Rows.{BeginNoRow}
+use Rattle.tds_cells.specs.RowFormats.{KnowsSome}
 
 -- A call may be made that reads a row: payload and sink go on or give their stop again, and the small area has room for a cell.
 pub record IsReadyForRow {R W : Type 0} (payload : Payload R) (sink : Sink W) (small : Space) : Type 0 where
@@ -33,6 +34,11 @@ pub record AwaitsRows {R W : Type 0} (payload : Payload R) (sink : Sink W) (smal
   pub writing : IsWriting sink
   pub room : longest_cell ≤ small.room
 
+-- NBCROWs can be read: the bitmap's area has room for the longest, too.
+pub record AwaitsNbcRows {R W : Type 0} (payload : Payload R) (sink : Sink W) (small bitmap : Space) : Type 0 where
+  pub rows : AwaitsRows payload sink small
+  pub fits : longest_bitmap ≤ bitmap.room
+
 -- A call left payload and sink in order and, if it returned no error, going on, and no more than a cell in the small area.
 pub record LeavesLent {R W U : Type 0} (old new : Payload R) (before after : Sink W) (room left : Space) (result : Result U Stop) : Type 0 where
   pub payload : LeavesPayload old new result
@@ -44,6 +50,11 @@ pub record IsInRow {R W : Type 0} (rows : Rows R W) : Type 0 where
   pub payload : IsGoing rows.payload.now
   pub sink : IsWriting rows.sink.now
   pub room : longest_cell ≤ rows.small.now.room
+
+-- A row of some columns is being read.
+pub record IsInSomeRow {R W : Type 0} (rows : Rows R W) : Type 0 where
+  pub in_row : IsInRow rows
+  pub knows : KnowsSome rows.row_format.now
 
 -- A row is being read, and its next cell is of this format.
 pub record IsAtCell {R W : Type 0} (rows : Rows R W) (at : Cursor) (format : CellFormat) : Type 0 where

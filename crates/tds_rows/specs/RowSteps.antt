@@ -1,5 +1,5 @@
 -- What reading a row and putting its line does. Its start is that of a ROW or of an NBCROW.
-use Rattle.std.specs.Prelude.{◌≡◌, ◌⊎◌, ◌+◌, ℕ, Bool, List, length, Option, None, Some, true, false, Result, Err, IfOk, IfSome, MatchOption, MatchResult}
+use Rattle.std.specs.Prelude.{◌≡◌, ◌+◌, ℕ, Bool, List, length, Option, None, true, Result, Err, IfOk, IfSome, MatchResult}
 use Rattle.tds_packet.specs.declared.fault.Stop.{Stop}
 use Rattle.tds_packet.specs.declared.payload.Payload.{Payload}
 use Rattle.tds_packet.specs.Payloads.{seen}

@@ -5,10 +5,10 @@ ghost use Rattle.tds_columns.specs.Description.{Column};
 ghost use Rattle.tds_meter.specs.Space.{Space, empty};
 ghost use Rattle.tds_packet.specs.Payloads.{IsGoing, LeavesPayload, buffered, seen};
 ghost use Rattle.tds_packet.specs.Reads.{KeepsRoom};
-ghost use Rattle.tds_rows.specs.RowReading.{AwaitsBitmap, BitmapRead, IsAtCell, IsInRow, LeavesRows, MarkedBy, NextRead};
+ghost use Rattle.tds_rows.specs.RowReading.{AwaitsBitmap, BitmapRead, IsAtCell, IsInSomeRow, LeavesRows, MarkedBy, NextRead};
 ghost use Rattle.tds_rows.specs.RunPuts.{PutsRun};
 ghost use Rattle.tds_cells.specs.MarkedRows.{WritesWholeRows};
-ghost use Rattle.tds_cells.specs.RowFormats.{Knows, KnowsSome};
+ghost use Rattle.tds_cells.specs.RowFormats.{Knows};
 ghost use Rattle.tds_csv.specs.Sinks.{held};
 
 use crate::cell::null::put_null;
@@ -121,8 +121,7 @@ impl<'r, 't, 'p, 's, 'c, R: Read, W: Write> Rows<'r, 't, 'p, 's, 'c, R, W> {
     /// and takes the token byte after each but the last. It reads nothing and delivers nothing. Of ROWs it takes none.
     #[inline(always)]
     pub(crate) fn put_whole_rows<M: Marks>(&mut self) -> PutRows
-        requires in_row { IsInRow self.old }
-        requires knows { KnowsSome self.old.row_format.now }
+        requires { IsInSomeRow self.old }
         ensures stays { LeavesRows self.old self.new (Ok result) }
         ensures few { self.old.payload.now.place + result.rows ≤ self.new.payload.now.place }
         ensures none { result.last ≡ true → BeginNoRow M.token (buffered self.new.payload.now) }

@@ -3,7 +3,7 @@ ghost use Rattle.std.specs.Prelude.{◌≡◌, ◌+◌, ◌-◌, ◌<◌, ◌≤
 ghost use Rattle.tds_text.specs.Fields.{conversion_of};
 ghost use Rattle.tds_cells.specs.Cells.{LongShape, long_start};
 ghost use Rattle.tds_cells.specs.Layouts.{shape_of_layout};
-ghost use Rattle.tds_rows.specs.RowReading.{AwaitsBitmap, CellRead, EndsRows, IsAtCell, IsInRow, LeavesRows, TokenTaken};
+ghost use Rattle.tds_rows.specs.RowReading.{AwaitsBitmap, CellRead, EndsRows, IsAtCell, IsInRow, IsInSomeRow, LeavesRows, TokenTaken};
 ghost use Rattle.tds_cells.specs.Rows.{RowToken, longest_bitmap, row_start, token_byte};
 ghost use Rattle.tds_columns.specs.Description.{Column};
 ghost use Rattle.tds_packet.specs.Payloads.{buffered, seen};
@@ -17,7 +17,7 @@ ghost use Rattle.tds_cells.specs.declared.nulls.Nulls.TheVariants.{Unmarked};
 ghost use Rattle.tds_csv.specs.Sinks.{held};
 ghost use Rattle.tds_rows.specs.CellSteps.{FieldPut};
 ghost use Rattle.tds_rows.specs.RowRuns.{RunRead};
-ghost use Rattle.tds_cells.specs.RowFormats.{BeginsRow, Knows, KnowsSome};
+ghost use Rattle.tds_cells.specs.RowFormats.{BeginsRow, Knows};
 ghost use Rattle.tds_values.specs.Kind as kinds;
 
 use crate::cell::gathered::{LONGEST_CELL, gather_scalar, length_size};
@@ -266,8 +266,7 @@ impl<'r, 't, 'p, 's, 'c, R: Read, W: Write> Rows<'r, 't, 'p, 's, 'c, R, W> {
     /// many rows it read.
     #[inline(always)]
     pub(crate) fn row_by<M: Marks>(&mut self, marks: &mut M) -> Result<u64, Stop>
-        requires in_row { IsInRow self.old }
-        requires knows { KnowsSome self.old.row_format.now }
+        requires some { IsInSomeRow self.old }
         requires awaits { AwaitsBitmap (M.space marks.old) }
         ensures leaves { LeavesRows self.old self.new result }
         ensures room { KeepsRoom (M.space marks.old) (M.space marks.new) }
@@ -299,8 +298,7 @@ impl<'r, 't, 'p, 's, 'c, R: Read, W: Write> Rows<'r, 't, 'p, 's, 'c, R, W> {
     /// how many they are.
     #[inline(always)]
     pub(crate) fn rows<M: Marks>(&mut self, marks: &mut M) -> Result<u64, Stop>
-        requires in_row { IsInRow self.old }
-        requires knows { KnowsSome self.old.row_format.now }
+        requires some { IsInSomeRow self.old }
         requires room { longest_bitmap ≤ (M.space marks.old).room }
         ensures leaves { LeavesRows self.old self.new result }
         ensures room { KeepsRoom (M.space marks.old) (M.space marks.new) }

@@ -1,8 +1,8 @@
 // A scalar cell across the ends of packets: its bytes are gathered in the small area.
-ghost use Rattle.std.specs.Prelude.{[], ◌≡◌, ◌≤◌, IsTrue, None, Some};
+ghost use Rattle.std.specs.Prelude.{◌≡◌, ◌≤◌, IsTrue, None, Some};
 ghost use Rattle.tds_packet.specs.Payloads.{IsGoing};
 ghost use Rattle.tds_cells.specs.Cells.{ScalarBytes, ScalarLength, cell_start, shape};
-ghost use Rattle.tds_rows.specs.CellSteps.{CellGathered, LeavesGathering, longest_cell};
+ghost use Rattle.tds_rows.specs.CellSteps.{CellGathered, IsGathering, LeavesGathering, longest_cell};
 ghost use Rattle.tds_values.specs.Front.{value_start};
 ghost use Rattle.tds_values.specs.declared.charset.Charset as sets;
 ghost use Rattle.tds_values.specs.Kind as kinds;
@@ -41,9 +41,7 @@ fn gather_fixed<R: Read>(
     column: u16,
     small: &mut Area,
 ) -> Result<(), Stop>
-    requires going { IsGoing payload.old }
-    requires empty { small.old.bytes ≡ [] }
-    requires room { longest_cell ≤ small.old.room }
+    requires gathering { IsGathering payload.old small.old }
     requires fixed { kinds.fixed_length kind.now ≡ Some n }
     requires longest { n ≤ LONGEST_VALUE }
     ensures leaves { LeavesGathering payload.old payload.new small.old small.new result }
@@ -60,9 +58,7 @@ fn gather_counted<R: Read>(
     column: u16,
     small: &mut Area,
 ) -> Result<(), Stop>
-    requires going { IsGoing payload.old }
-    requires empty { small.old.bytes ≡ [] }
-    requires room { longest_cell ≤ small.old.room }
+    requires gathering { IsGathering payload.old small.old }
     requires valid { IsTrue (kinds.is_valid kind.now) }
     requires scalar { IsTrue (kinds.is_scalar kind.now) }
     requires counted { kinds.fixed_length kind.now ≡ None }
