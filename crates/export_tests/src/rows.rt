@@ -292,8 +292,8 @@ const READINGS: [Reading; 10] = [
         peak: 18,
     },
     Reading {
-        what: "each cell in the last 17 bytes of a packet",
-        peak: 4,
+        what: "no cell that lies whole in the last bytes of its packet",
+        peak: 0,
         ..THREE_KINDS
     },
     Reading {
@@ -342,7 +342,7 @@ const READINGS: [Reading; 10] = [
             place: Place::Payload(10),
         }),
         text: b"",
-        peak: 1,
+        peak: 0,
     },
     AFTER_A_BITMAP,
     Reading {

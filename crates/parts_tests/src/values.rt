@@ -64,7 +64,7 @@ fn check_bytes(rt: &impl Abort, kind: &Kind, what: &str, bytes: &[u8], want: &st
         Err(fault) => expect_of(rt, kind, what, name_of(fault) == want),
     }
     let mut room = [0xEE; TEXT_ROOM];
-    match write_scalar(kind, bytes, &mut room) {
+    match write_scalar::<false>(kind, bytes, &mut room) {
         Ok(length) => expect_of(rt, kind, what, shown(&room[..length]) == want),
         Err(fault) => expect_of(rt, kind, what, name_of(fault) == want),
     }

@@ -106,10 +106,6 @@ abbrev pub FieldsWritten : Charset → List CellFormat → ℕ → List ℕ → 
 FieldsWritten charset formats column bytes text run = (fields : List ℕ) × N.WritesFormats charset formats column run.cells (take run.used bytes) fields
     × (take run.made text ≡ fields ++ N.after_comma (column + run.cells) [])
 
--- the bytes of the first cell were used, which are this many
-abbrev pub FirstUsed : List CellFormat → List ℕ → ℕ → Type 0
-FirstUsed formats bytes used = (format : CellFormat) (rest : List CellFormat) → formats ≡ format ∷ rest → used ≡ N.whole_size format.kind bytes
-
 module _ (charset : Charset) (formats : List CellFormat) (column : ℕ) (bytes : List ℕ) where
   pub fields_more : (to text rest : List ℕ) (k used u now made m : ℕ) (d : CellFormat) → now ≡ used + u → made ≤ length to → m < length text
       → k < length formats → N.WritesField charset (get_or formats k d).kind (take u (unused used bytes)) (take m text)
@@ -130,19 +126,6 @@ module _ (charset : Charset) (formats : List CellFormat) (column : ℕ) (bytes :
       let written : N.WritesFormats charset formats column (suc k) _ _ =
       (take used bytes, read, fields, field, used_more used u bytes, refl, x, λ format. rw (N.get_or_default formats k d format there) at wrote) in
       rw further (grind arith)
-
-  pub first_alone : (ends : Bool) (to : List ℕ) (used made : ℕ) (fields : List ℕ) → FirstUsed formats bytes used
-      → N.WritesFormats charset formats column 1 (take used bytes) fields → take made to ≡ fields ++ end_after (ends && (1 == length formats))
-      → (format : CellFormat) (rest : List CellFormat) → formats ≡ format ∷ rest → (used ≡ N.whole_size format.kind bytes)
-      × N.WritesKind charset format.kind column (ends && (1 == length formats)) (take used bytes) (take made to)
-  first_alone ends _ _ _ _ size (front, rest, before, field, b, t, x, y) is = λ format others are.
-      let last = ends && _ in
-      let read = sym (b ∙ ap (λ l. l ++ rest) x.0) in
-      let text =
-      ap (λ l. l ++ end_after last) (ap (λ (n : ℕ). N.after_comma n field) (let n : column ≡ column + 0 = omega arith in n)
-      ∙ sym (grind arith)) ∙ sym is in
-      let kind_is = ap (λ (l : List CellFormat). (get_or l 0 format).kind) are in
-      (search N.rules, rw kind_is at (rw text at (rw read at (y format column last))))
 
 -- what is written from `at` on
 pub beyond_kept : (at m : ℕ) (to x rest : List ℕ) → at ≤ length to → m ≤ length x → take m (drop at (take at to ++ (x ++ rest))) ≡ take m x
@@ -240,11 +223,6 @@ line_beyond at k m end old comma rest text new e (within, few, fits, ends) kept 
     both = ap (λ (n : ℕ). take n (drop at text)) (omega arith) ∙ N.take-add k m (drop at text)
         ∙ ap (λ l. l ++ take m (drop k (drop at text))) first ∙ ap (λ l. take k comma ++ take m l) (N.drop-drop k at text)
 
--- the bytes of the first cell were used
-first_used : (formats : List CellFormat) (bytes : List ℕ) (used u k : ℕ) (d : CellFormat) → k ≡ 0 → used ≡ 0
-    → u ≡ N.whole_size (get_or formats k d).kind (unused used bytes) → FirstUsed formats bytes (used + u)
-first_used _ _ _ u k d first none size _ _ are = grind (arith, N.all_after)
-
 -- what is left of the bytes, after some more of them
 pub left_after : (bytes rest : List ℕ) (u : ℕ) → length rest ≤ length bytes → rest ≡ drop (length bytes - length rest) bytes → u ≤ length rest
     → (length bytes - length (unused u rest) ≡ (length bytes - length rest) + u)
@@ -261,7 +239,6 @@ pub record FieldsAt (formats : List CellFormat) (bytes : List ℕ) (room cells u
   pub begun : cells ≡ 0 → (used ≡ 0) × (made ≤ 1)
   pub some : 0 < cells → 0 < used
   pub further : 0 < cells → (0 < made) × (made < room)
-  pub one : cells ≡ 1 → (format : CellFormat) (rest : List CellFormat) → formats ≡ format ∷ rest → used ≡ N.whole_size format.kind bytes
 
 -- one cell more, and the comma after it
 pub fields_step : {formats : List CellFormat} {bytes : List ℕ} {room more_room cells used now made : ℕ} (u m : ℕ) (d : CellFormat)
@@ -277,8 +254,6 @@ fields_step {formats = formats} {bytes = bytes} {cells = cells} {used = used} u 
       begun = omega arith;
       some = omega arith;
       further = omega arith;
-      one = λ first. let begun = x.begun (omega arith) in
-          rw further (first_used formats bytes used u cells d (omega arith) begun.0 whole);
     }
 
 -- a run ended here, with what was made as it was
@@ -289,7 +264,6 @@ pub fields_end : {charset : Charset} {formats : List CellFormat} {column : ℕ} 
 fields_end to new at size same x = record {
   within = grind arith;
   room = grind arith;
-  one = at.one;
   fields = x.0;
   writes = x.1;
   text_is = same ∙ x.2;
@@ -317,15 +291,10 @@ pub fields_run : {charset : Charset} {formats : List CellFormat} {column : ℕ} 
 fields_run {charset = charset} {formats = formats} {column = column} {ends = ends} {bytes = bytes} {text = text} {run = run} _ made new some x fits is =
     let fields = x.fields in
     let before = before_comma run.made _ text fields (omega arith) x.within.made x.text_is in
-    let text_is = is ∙ ap (λ l. l ++ end_after _) before in
+    let text_is = is ∙ ap (λ l. l ++ end_after (ends && (run.cells == length formats))) before in
     record {
       within = omega arith;
       ends = grind arith;
-      one = λ alone.
-          let one = N.subst (λ (n : ℕ). N.WritesFormats charset formats column n (take run.used bytes) fields) alone x.writes in
-          let first = first_alone charset formats column bytes ends new run.used made fields (x.one alone) one
-          (text_is ∙ ap (λ (n : ℕ). fields ++ end_after (ends && (n == length formats))) alone) in
-          first;
       cells = grind (arith, run_marked);
     }
 

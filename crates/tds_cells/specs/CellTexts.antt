@@ -1,6 +1,6 @@
 -- What reading a cell and putting it into its line does.
 use Rattle.std.specs.Prelude.{◌≡◌, ◌==◌, ◌⊎◌, ◌+◌, ◌-◌, ◌<◌, ◌≤◌, ℕ, Bool, true, false, List, [], ◌∷◌, length, take, is_ok, Option}
-use Rattle.std.specs.Prelude.{Some, None, MatchOption, if◌then◌else◌}
+use Rattle.std.specs.Prelude.{Some, None, Err, MatchOption, if◌then◌else◌}
 use Rattle.tds_values.specs.declared.kind.Kind.{Kind}
 use Rattle.tds_values.specs.declared.kind.Kind.TheVariants.{Int4, IntN}
 use Rattle.tds_values.specs.Front.{scalar_size, value_bytes, value_length, value_start}
@@ -12,7 +12,10 @@ use Rattle.tds_values.specs.declared.charset.Charset.{Charset}
 use Rattle.tds_values.specs.declared.span.Span.{Span}
 use Rattle.tds_cells.specs.LongFields.{IsLongLeft, long_size, reach_of}
 use Rattle.tds_cells.specs.WholeCells.{IsCellSpan, WritesCell, WritesWhole}
-use Rattle.tds_cells.specs.Cells.{CellPart, WholeCell, cell, cell_start, field, field_so_far, shape}
+use Rattle.tds_cells.specs.Cells.{CellPart, LongShape, WholeCell, cell, cell_start, field, field_so_far, shape}
+use Rattle.tds_cells.specs.declared.whole.Left.{Left}
+use Rattle.tds_cells.specs.declared.whole.Left.TheVariants.{Cut, Refused, Long}
+use Rattle.tds_text.specs.Fields.{conversion_of}
 
 -- a field that is open, with the comma before it; nothing if it isn't
 abbrev pub opened : ℕ → Option (List ℕ) → List ℕ
@@ -61,6 +64,13 @@ IsScalarLeft kind bytes = (length bytes < scalar_size kind bytes)
 abbrev pub IsLeft : Charset → Kind → List ℕ → ℕ → Type 0
 IsLeft charset kind bytes room =
     ((is_scalar kind ≡ true) × IsScalarLeft kind bytes) ⊎ ((is_scalar kind ≡ false) × IsLongLeft (shape charset kind) bytes room)
+
+-- The cell at the front of these bytes is left for this reason.
+abbrev pub IsLeftFor : Charset → Kind → List ℕ → Left → Type 0
+IsLeftFor charset kind bytes Cut = (is_scalar kind ≡ true) × (length bytes < scalar_size kind bytes)
+IsLeftFor charset kind bytes (Refused fault) = (is_scalar kind ≡ true) × (scalar_size kind bytes ≤ length bytes) × (0 < value_length kind bytes)
+    × (read_of kind (value_bytes kind bytes) ≡ Err fault)
+IsLeftFor charset kind bytes (Long content reach) = shape charset kind ≡ LongShape (conversion_of content) reach
 
 -- The bytes are a whole cell of a kind, and this is its text in its line; that of a scalar, in any set, comes only with the last element.
 pub record WritesKind (charset : Charset) (kind : Kind) (column : ℕ) (last : Bool) (bytes text : List ℕ) : Type 0 where

@@ -1,5 +1,5 @@
 -- What a run over cells by their formats does, whose columns follow one another in a row.
-use Rattle.std.specs.Prelude.{◌≡◌, ◌==◌, ◌⊎◌, ◌+◌, ◌-◌, ◌<◌, ◌≤◌, ◌*◌, ◌&&◌, ◌∷◌, ◌++◌, ℕ, zero, suc, Bool, false, true, List, [], length, map, take, drop}
+use Rattle.std.specs.Prelude.{◌≡◌, ◌==◌, ◌⊎◌, ◌+◌, ◌-◌, ◌<◌, ◌≤◌, ◌*◌, ◌∷◌, ◌++◌, ℕ, zero, suc, Bool, false, true, List, [], length, map, take, drop}
 use Rattle.std.specs.Prelude.{get_or}
 use Rattle.tds_columns.specs.Description.{Column}
 use Rattle.tds_text.specs.Quoting.{after_comma}
@@ -8,7 +8,7 @@ use Rattle.tds_cells.specs.declared.layout.CellFormat.{CellFormat}
 use Rattle.tds_cells.specs.declared.whole.TheConstants.{CELL_ROOM}
 use Rattle.tds_cells.specs.declared.run.formats.FormatsRun.{FormatsRun}
 use Rattle.tds_values.specs.declared.span.Span.{Span}
-use Rattle.tds_cells.specs.CellTexts.{IsLeft, IsScalarLeft, WritesField, WritesKind, is_counted, is_int4, whole_size}
+use Rattle.tds_cells.specs.CellTexts.{IsLeft, IsScalarLeft, WritesField, is_counted, is_int4}
 use Rattle.tds_cells.specs.Formats.{Each}
 use Rattle.tds_cells.specs.MarkedRuns.{WritesMarked}
 use Rattle.tds_cells.specs.RowFormats.{BeginsRow, kinds}
@@ -42,7 +42,6 @@ WritesFormats charset formats column (suc n) bytes text = (front : List ℕ) × 
 pub record WritesFields (charset : Charset) (formats : List CellFormat) (column : ℕ) (bytes text : List ℕ) (run : FormatsRun) : Type 0 where
   pub within : IsWithin run (length formats) (length bytes) (length text)
   pub room : 0 < run.cells → (0 < run.made) × (run.made < length text)
-  pub one : run.cells ≡ 1 → (format : CellFormat) (rest : List CellFormat) → formats ≡ format ∷ rest → run.used ≡ whole_size format.kind bytes
   pub fields : List ℕ
   pub writes : WritesFormats charset formats column run.cells (take run.used bytes) fields
   pub text_is : take run.made text ≡ fields ++ after_comma (column + run.cells) []
@@ -65,8 +64,6 @@ pub record RunsFormats (charset : Charset) (formats : List CellFormat) (column :
     (run : FormatsRun) : Type 0 where
   pub within : IsWithin run (length formats) (length bytes) room
   pub ends : run.cells ≡ 0 → FirstLeft charset formats bytes room
-  pub one : run.cells ≡ 1 → (format : CellFormat) (rest : List CellFormat) → formats ≡ format ∷ rest → (run.used ≡ whole_size format.kind bytes)
-      × WritesKind charset format.kind column (last && (1 == length formats)) (take run.used bytes) (take run.made text)
   pub cells : (columns : List Column) → AreNext formats last (drop column columns)
       → WritesMarked charset columns (λ k. false) column run.cells (take run.used bytes) (take run.made text)
 

@@ -1,5 +1,5 @@
 -- The formats that a row format knows.
-use Rattle.std.specs.Prelude.{◌≡◌, ◌<◌, ℕ, List, length, get_or, true}
+use Rattle.std.specs.Prelude.{◌<◌, ℕ, List, length, get_or}
 use Rattle.tds_values.specs.declared.charset.Charset.{Charset}
 use Rattle.tds_cells.specs.declared.layout.CellFormat.{CellFormat}
 use Rattle.tds_cells.specs.Layouts.{IsLaidOut}

@@ -1,5 +1,5 @@
 -- What a run over the cells of an NBCROW does, which are NULL by their bit or lie whole in the packet.
-use Rattle.std.specs.Prelude.{◌≡◌, ◌⊎◌, ◌+◌, ◌-◌, ◌*◌, ◌<◌, ◌≤◌, ℕ, ⊤, zero, suc, Bool, true, false, List, [], ◌∷◌, ◌++◌, length, take, drop}
+use Rattle.std.specs.Prelude.{◌≡◌, ◌⊎◌, ◌+◌, ◌*◌, ◌<◌, ◌≤◌, ℕ, ⊤, zero, suc, Bool, true, false, List, [], ◌∷◌, ◌++◌, length, drop}
 use Rattle.tds_values.specs.declared.kind.Kind.{Kind}
 use Rattle.tds_columns.specs.Description.{Column}
 use Rattle.tds_text.specs.Quoting.{in_line, null_field}

@@ -4,7 +4,7 @@
 //! A [`RowFormat`] knows of each column of a description, or of the first 1,024, how its cells are written: its [`CellFormat`]. A
 //! run writes the text of cell after cell, from a place in a row, as far as their bytes are whole and there is room, and
 //! says how many bytes it used and made, and where it ended. Nothing is read or delivered here, and no fault is named: a
-//! cell that isn't whole, is refused or is in several chunks is left to the caller.
+//! cell that isn't whole, is refused or is in several chunks is left to the caller; `write_one` says why ([`Left`]).
 //!
 //! # The way in
 //!
@@ -26,4 +26,4 @@ pub use row_format::{
     Cursor, FEW_COLUMNS, Learnt, MANY_COLUMNS, ROW, RowFormat, SOME_COLUMNS, blank,
 };
 pub use run::RowsSpan;
-pub use whole::{CELL_ROOM, LOOKAHEAD, NULL_LENGTH, NULL_TOTAL, UNKNOWN_TOTAL};
+pub use whole::{CELL_ROOM, LOOKAHEAD, Left, NULL_LENGTH, NULL_TOTAL, UNKNOWN_TOTAL};

@@ -1,5 +1,7 @@
 // A run of cells: as many as are whole in the packet and have room, over the ends of rows.
-ghost use Rattle.std.specs.Prelude.{false, true, ◌≡◌, ◌==◌, ◌+◌, ◌-◌, ◌<◌, ◌≤◌, [], drop, length, min, take};
+ghost use Rattle.std.specs.Prelude.{false, true, ◌≡◌, ◌==◌, ◌+◌, ◌-◌, ◌<◌, ◌≤◌, [], drop, length, min, take, IfErr};
+ghost use Rattle.std.specs.Result.{result_ok};
+ghost use Rattle.tds_cells.specs.CellTexts.{IsLeftFor};
 ghost use Rattle.tds_cells.specs.declared.whole.TheConstants.{CELL_ROOM};
 ghost use Rattle.tds_cells.specs.FormatRuns.{NumbersEnd};
 ghost use Rattle.tds_cells.specs.Layouts.{IsLaidOut};
@@ -13,7 +15,7 @@ ghost use Rattle.tds_text.specs.Quoting.{after_comma};
 use crate::layout::CellFormat;
 use crate::row_format::{Cursor, RowFormat};
 use crate::run::formats::{latest_row, run_formats, run_row};
-use crate::whole::{CELL_ROOM, LOOKAHEAD, VALUE_ROOM, write_far_cell};
+use crate::whole::{CELL_ROOM, LOOKAHEAD, Left, VALUE_ROOM, write_cell, write_far_cell};
 use tds_text::{COMMA, write_comma, write_line_end};
 use tds_values::Span;
 
@@ -182,8 +184,7 @@ impl<'a> RowFormat<'a> {
         self.run_unknown(at, end, bytes, to)
     }
 
-    /// Writes only the next cell, which is of this format. `None` if it isn't whole in these bytes, is refused or in
-    /// several chunks, or if there isn't the room that the text of a short value may need.
+    /// Writes only the next cell, which is of this format, or says why it is left.
     #[inline(never)]
     pub fn write_one(
         &self,
@@ -191,21 +192,20 @@ impl<'a> RowFormat<'a> {
         format: &CellFormat,
         bytes: &[u8],
         to: &mut [u8],
-    ) -> Option<Span>
+    ) -> Result<Span, Left>
         requires within { at.column < self.now.count }
         requires laid { IsLaidOut self.now.charset format.now.kind format.now.layout }
         requires room { CELL_ROOM ≤ length to.old }
         ensures cell { AloneWritten self.now.charset format.now.kind at.entry.column
-            (at.entry.column + 1 == self.now.count) bytes.now (length to.old) to.new result }
+            (at.entry.column + 1 == self.now.count) bytes.now (length to.old) to.new (result_ok result) }
+        ensures left { IfErr result (λ left. IsLeftFor self.now.charset format.now.kind bytes.now left) }
     {
-        let one = [*format];
-        let run = run_formats(&one, self.charset, at.column, self.is_last(at), bytes, to);
-        if run.cells == 0 {
-            return None;
-        }
-        Some(Span {
-            used: run.used,
-            made: run.made,
+        let start = write_comma(at.column, to);
+        let written = write_cell::<true>(format, self.charset, bytes, &mut to[start..])?;
+        let made = write_line_end(self.is_last(at), start + written.made, to);
+        Ok(Span {
+            used: written.used,
+            made,
         })
     }
 

@@ -1,6 +1,7 @@
 // A cell that is whole in the packet: its bytes are together. A value in chunks has one at most.
-ghost use Rattle.std.specs.Prelude.{◌≡◌, ◌==◌, ◌+◌, ◌-◌, ◌<◌, ◌≤◌, ℕ, drop, length, take, is_ok, false, true, None, Some, IfSome, IsTrue, MatchOption, if◌then◌else◌};
-ghost use Rattle.tds_cells.specs.CellTexts.{CellWritten, HasInt4, WritesField, is_counted, is_int4, whole_size};
+ghost use Rattle.std.specs.Prelude.{◌≡◌, ◌==◌, ◌+◌, ◌-◌, ◌<◌, ◌≤◌, ℕ, drop, length, take, is_ok, false, true, None, Some, IfErr, IfSome, IsTrue, MatchOption, if◌then◌else◌};
+ghost use Rattle.std.specs.Result.{result_ok};
+ghost use Rattle.tds_cells.specs.CellTexts.{CellWritten, HasInt4, IsLeftFor, WritesField, is_counted, is_int4, whole_size};
 ghost use Rattle.tds_values.specs.Front.{value_bytes};
 ghost use Rattle.tds_values.specs.Scalar.{read_of};
 ghost use Rattle.tds_values.specs.declared.charset.Charset.{Charset};
@@ -19,8 +20,8 @@ use crate::row_format::is_counted;
 use byteorder::{ByteOrder, LittleEndian};
 use tds_text::{Content, NULL_ROOM, field_room, write_field, write_null};
 use tds_values::{
-    Charset, FRONT_SIZE, INTEGER_ROOM, Kind, LONGEST_INT4, Reach, Span, write_front, write_int4,
-    write_scalar,
+    Charset, FRONT_SIZE, INTEGER_ROOM, Kind, LONGEST_INT4, Reach, Span, ValueFault, write_front,
+    write_int4, write_scalar,
 };
 
 /// The length that stands for NULL in a short value.
@@ -190,44 +191,62 @@ fn write_long(reach: Reach, content: Content, bytes: &[u8], to: &mut [u8]) -> Op
     }
 }
 
-/// Writes the field of the cell at the front of these bytes. `None` if it isn't whole, is refused or in several chunks, or if
-/// there isn't the room that the text of a long value may need. Two bytes of room are left after it.
+/// Why the cell at the front of some bytes is left.
+#[derive(Clone, Copy)]
+pub enum Left {
+    /// It is of a scalar kind, and isn't whole.
+    Cut,
+    /// It is of a scalar kind, and its value or the length before it is refused.
+    Refused(ValueFault),
+    /// It is a long value of this content, which isn't whole, is no text or in several chunks, or may want more room.
+    Long(Content, Reach),
+}
+
+/// Writes the field of the cell at the front of these bytes, or says why it is left. Two bytes of room are left after it.
+/// `COPY` is that of [`write_front`].
 #[inline(always)]
-pub(crate) fn write_cell(
+pub(crate) fn write_cell<const COPY: bool>(
     format: &CellFormat,
     charset: Charset,
     bytes: &[u8],
     to: &mut [u8],
-) -> Option<Span>
+) -> Result<Span, Left>
     requires laid { IsLaidOut charset format.now.kind format.now.layout }
     requires room { VALUE_ROOM ≤ length to.old }
-    ensures cell { CellWritten charset format.now.kind bytes.now (length to.old + 1) to.new result }
+    ensures cell { CellWritten charset format.now.kind bytes.now (length to.old + 1) to.new (result_ok result) }
+    ensures left { IfErr result (λ left. IsLeftFor charset format.now.kind bytes.now left) }
 {
     if let Layout::Short(content) = format.layout {
-        return write_short(content, bytes, to);
+        return write_long(Reach::Short, content, bytes, to).ok_or(Left::Long(
+            content,
+            Reach::Short,
+        ));
     }
     if let Layout::Chunked(content) = format.layout {
-        return write_chunked(content, bytes, to);
+        return write_long(Reach::Chunked, content, bytes, to).ok_or(Left::Long(
+            content,
+            Reach::Chunked,
+        ));
     }
     if bytes.is_empty() {
-        return None;
+        return Err(Left::Cut);
     }
     let (start, n) = match format.layout {
         Layout::Fixed(n) => (0, n as usize),
         Layout::Counted => (1, bytes[0] as usize),
-        _ => return None,
+        _ => return Err(Left::Cut),
     };
     let used = start + n;
     if bytes.len() < used {
-        return None;
+        return Err(Left::Cut);
     }
     if n == 0 {
         let made = write_null(0, false, to);
-        return Some(Span { used, made });
+        return Ok(Span { used, made });
     }
-    match write_scalar(&format.kind, &bytes[start..used], to) {
-        Ok(made) => Some(Span { used, made }),
-        Err(_) => None,
+    match write_scalar::<COPY>(&format.kind, &bytes[start..used], to) {
+        Ok(made) => Ok(Span { used, made }),
+        Err(fault) => Err(Left::Refused(fault)),
     }
 }
 

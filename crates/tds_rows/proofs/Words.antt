@@ -40,7 +40,7 @@ pub use Rattle.tds_meter.specs.Counts.{Rose, one_more}
 pub use Rattle.tds_meter.specs.Lent.{overwritten}
 pub use Rattle.tds_meter.specs.Space.{appended, Space}
 pub use Rattle.tds_packet.proofs.ElementLaws.{no_further, longest_at, Spelt-step, one_longest}
-pub use Rattle.tds_packet.proofs.ElementLaws.{Spelt-append, longest_cut, longest_refused, Spelt-one, Inside-Spelt}
+pub use Rattle.tds_packet.proofs.ElementLaws.{Spelt-append, longest_cut, longest_refused, Spelt-none, Spelt-one, Inside-Spelt}
 pub use Rattle.tds_packet.proofs.Futures.{Ends-after, Takes-more, Takes-none, Takes-trans}
 pub use Rattle.tds_packet.proofs.InnerGrammars.{stops_inside, next_some}
 pub use Rattle.tds_packet.proofs.Passing.{passed_on, passed}
@@ -59,8 +59,11 @@ pub use Rattle.tds_packet.specs.declared.fault.Fault.TheVariants.{RefusedToken}
 pub use Rattle.tds_packet.specs.declared.fault.Place.TheVariants.{Payload}
 pub use Rattle.tds_packet.specs.declared.fault.Stop.{Stop}
 pub use Rattle.tds_rows.specs.Blames.{failures_of, Failures}
-pub use Rattle.tds_rows.specs.CellSteps.{LeavesSmall, StallsCell}
-pub use Rattle.tds_cells.specs.CellTexts.{IsScalarLeft, cell_so_far, is_counted, is_last_column}
+pub use Rattle.tds_rows.specs.CellSteps.{LeavesSmall, StallsCell, refusal}
+pub use Rattle.tds_values.specs.declared.scalar.ValueFault.{ValueFault}
+pub use Rattle.tds_values.specs.declared.scalar.ValueFault.TheVariants as value_faults
+pub use Rattle.tds_cells.specs.declared.whole.Left.TheVariants.{Refused}
+pub use Rattle.tds_cells.specs.CellTexts.{IsLeftFor, cell_so_far, is_counted, is_last_column}
 pub use Rattle.tds_rows.specs.CellSteps.{FieldPut, PutsField, GathersCell}
 pub use Rattle.tds_cells.specs.Cells.{ShortData, ScalarLength, WholeCell, cell, ChunkLength}
 pub use Rattle.tds_cells.specs.Cells.{ShortLength, cell_start, cell_add, Null, cell_size, unless, shape}

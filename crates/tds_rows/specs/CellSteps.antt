@@ -1,11 +1,13 @@
 -- What reading a cell and putting it into its line does.
-use Rattle.std.specs.Prelude.{◌≡◌, ◌+◌, ◌<◌, ◌≤◌, ℕ, Bool, false, List, [], length, max, is_ok, Option}
-use Rattle.std.specs.Prelude.{None, Result, MatchResult}
+use Rattle.std.specs.Prelude.{◌≡◌, ◌+◌, ◌<◌, ◌≤◌, ℕ, Bool, List, [], length, max, Option}
+use Rattle.std.specs.Prelude.{None, Result, Err, MatchResult}
 use Rattle.tds_meter.specs.Space.{Space}
 use Rattle.tds_values.specs.declared.kind.Kind.{Kind}
 use Rattle.tds_values.specs.Front.{scalar_size, value_bytes, value_length, value_start}
 use Rattle.tds_values.specs.Scalar.{read_of}
-use Rattle.tds_packet.specs.declared.fault.Fault.TheVariants.{BadValue}
+use Rattle.tds_values.specs.declared.scalar.ValueFault.{ValueFault}
+use Rattle.tds_values.specs.declared.scalar.ValueFault.TheVariants as faults
+use Rattle.tds_packet.specs.declared.fault.Fault.TheVariants.{BadValue, BadValueLength}
 use Rattle.tds_packet.specs.declared.fault.Place.TheVariants.{Payload}
 use Rattle.tds_packet.specs.declared.fault.Stop.{Stop}
 use Rattle.tds_packet.specs.declared.payload.Payload as payloads
@@ -30,14 +32,19 @@ pub record PutsField (from : CellPart) (column : ℕ) (last : Bool) (old new : P
   pub streams : Streams (cell column) (cell_so_far column last) from old new before after (WholeCell value)
   pub place_is : place' ≡ place + length streams.bytes
 
+-- the stop at a scalar cell that begins at this place, whose value, or the length before it, is refused
+abbrev pub refusal : Kind → ℕ → ℕ → ValueFault → Stop
+refusal kind column place faults.Length = record { fault = BadValueLength column; place = Payload place }
+refusal kind column place faults.Value = record { fault = BadValue column; place = Payload (place + value_start kind) }
+
 -- The bytes of a scalar cell were read, whose length is allowed; and if its value is refused, this is the stop.
 pub record GathersCell (kind : Kind) (from : CellPart) (column : ℕ) (old new : PayloadView) (place place' : ℕ) (bytes : List ℕ) : Type 0 where
   pub whole : length bytes ≡ scalar_size kind bytes
   pub takes : Takes old new bytes (length bytes)
   pub between : IsBetween new
   pub place_is : place' ≡ place + length bytes
-  pub refused : 0 < value_length kind bytes → is_ok (read_of kind (value_bytes kind bytes)) ≡ false
-      → StallsCell from column old new place (record { fault = BadValue column; place = Payload (place + value_start kind) })
+  pub refused : (fault : ValueFault) → 0 < value_length kind bytes → read_of kind (value_bytes kind bytes) ≡ Err fault
+      → StallsCell from column old new place (refusal kind column place fault)
 
 -- the most bytes that a cell of a scalar kind has: a length and a decimal
 abbrev pub longest_cell : ℕ

@@ -1,8 +1,7 @@
 // The reading of rows, one or several after one another (MS-TDS, ROW).
 ghost use Rattle.std.specs.Prelude.{◌≡◌, ◌+◌, ◌-◌, ◌<◌, ◌≤◌, ℕ, Bool, List, length, None, Ok, IfOk, IfSome, IsTrue};
 ghost use Rattle.tds_text.specs.Fields.{conversion_of};
-ghost use Rattle.tds_cells.specs.Cells.{LongShape, long_start};
-ghost use Rattle.tds_cells.specs.Layouts.{shape_of_layout};
+ghost use Rattle.tds_cells.specs.Cells.{long_start};
 ghost use Rattle.tds_rows.specs.RowReading.{AwaitsBitmap, CellRead, EndsRows, IsAtCell, IsInRow, IsInSomeRow, LeavesRows, TokenTaken};
 ghost use Rattle.tds_cells.specs.Rows.{RowToken, longest_bitmap, row_start, token_byte};
 ghost use Rattle.tds_columns.specs.Description.{Column};
@@ -10,7 +9,8 @@ ghost use Rattle.tds_packet.specs.Payloads.{buffered, seen};
 ghost use Rattle.tds_packet.specs.Reads.{KeepsRoom};
 ghost use Rattle.tds_rows.specs.RowSteps.{RowPut, RowsRead, SomeRead};
 ghost use Rattle.tds_rows.specs.RunPuts.{PutsRun};
-ghost use Rattle.tds_cells.specs.CellTexts.{IsLeft};
+ghost use Rattle.tds_cells.specs.CellTexts.{IsLeftFor};
+ghost use Rattle.tds_cells.specs.declared.whole.Left.TheVariants.{Refused};
 ghost use Rattle.tds_cells.specs.Runs.{RunWritten};
 ghost use Rattle.tds_cells.specs.MarkedRuns.{Covers, EndsLeft, nulls_of};
 ghost use Rattle.tds_cells.specs.declared.nulls.Nulls.TheVariants.{Unmarked};
@@ -20,16 +20,16 @@ ghost use Rattle.tds_rows.specs.RowRuns.{RunRead};
 ghost use Rattle.tds_cells.specs.RowFormats.{BeginsRow, Knows};
 ghost use Rattle.tds_values.specs.Kind as kinds;
 
-use crate::cell::gathered::{LONGEST_CELL, gather_scalar, length_size};
+use crate::cell::gathered::{gather_scalar, refusal};
 use crate::cell::streamed::stream_long;
 use crate::nbc::Marks;
 use std::io::{Read, Write};
-use tds_cells::{CELL_ROOM, CellFormat, Cursor, Layout, Nulls, ROW, RowFormat};
+use tds_cells::{CELL_ROOM, CellFormat, Cursor, Left, Nulls, ROW, RowFormat};
 use tds_csv::{Cp1252Joiner, HexJoiner, Joiner, Sink, Utf8Joiner, Utf16Joiner, joiners_suit};
 use tds_meter::Area;
-use tds_packet::{Fault, Payload, Stop};
+use tds_packet::{Payload, Stop};
 use tds_text::Content;
-use tds_values::Reach;
+use tds_values::{Kind, Reach, ValueFault};
 
 /// The room for the text of a run that may go over the end of a block, or of a cell that no run took.
 const SCRATCH: usize = 256;
@@ -63,8 +63,8 @@ impl<'r, 't, 'p, 's, 'c, R: Read, W: Write> Rows<'r, 't, 'p, 's, 'c, R, W> {
         true
     }
 
-    // Reads the next cell of a scalar kind, and puts its text: one across the end of a packet, or one that stops the
-    // row. Its bytes are gathered in the small area, where it is judged.
+    // Reads the next cell, of a scalar kind, that goes on in the next packet, and puts its text. Its bytes are gathered in the
+    // small area, where it is judged.
     fn put_gathered(&mut self, at: Cursor<'c>, format: &CellFormat) -> Result<(), Stop>
         requires next { IsAtCell self.old at format.now }
         requires scalar { IsTrue (kinds.is_scalar format.now.kind) }
@@ -73,14 +73,27 @@ impl<'r, 't, 'p, 's, 'c, R: Read, W: Write> Rows<'r, 't, 'p, 's, 'c, R, W> {
         let place = self.payload.place();
         gather_scalar(self.payload, &format.kind, at.column, self.small)?;
         let mut text = [0u8; CELL_ROOM];
-        let Some(cell) = self
-            .row_format
-            .write_one(at, format, self.small.bytes(), &mut text)
-        else {
-            let fault = Fault::BadValue { column: at.column };
-            return Err(Stop::in_payload(fault, place + length_size(&format.kind) as u64));
-        };
-        self.sink.put(&text[..cell.made])
+        let bytes = self.small.bytes();
+        match self.row_format.write_one(at, format, bytes, &mut text) {
+            Ok(cell) => self.sink.put(&text[..cell.made]),
+            Err(Left::Refused(fault)) => Err(refusal(fault, &format.kind, at.column, place)),
+            Err(_) => unreachable!(),
+        }
+    }
+
+    // Stops at the next cell, which is whole in the packet and whose value, or the length before it, is refused. What is left of
+    // the packet is handed out.
+    fn refuse(&mut self, at: Cursor<'c>, kind: &Kind, fault: ValueFault) -> Result<(), Stop>
+        requires in_row { IsInRow self.old }
+        requires valid { IsTrue (kinds.is_valid kind.now) }
+        requires refused { IsLeftFor self.old.row_format.now.charset kind.now
+            (buffered self.old.payload.now) (Refused fault) }
+        ensures { CellRead R.remaining W.contents at.entry kind.now self.old self.new result }
+    {
+        let place = self.payload.place();
+        let left = self.payload.buffered().len();
+        self.payload.consume(left);
+        Err(refusal(fault, kind, at.column, place))
     }
 
     // Reads the next cell, a long value of this content, by a joiner, and puts its field.
@@ -114,73 +127,25 @@ impl<'r, 't, 'p, 's, 'c, R: Read, W: Write> Rows<'r, 't, 'p, 's, 'c, R, W> {
         }
     }
 
-    // Puts the text of the next cell if it is whole in the packet, isn't refused and has room in a small text. `None` if
-    // not, where nothing was done.
-    fn put_whole(&mut self, at: Cursor<'c>, format: &CellFormat) -> Option<Result<(), Stop>>
-        requires { IsAtCell self.old at format.now }
-        ensures none { result ≡ None → self.new ≡ self.old }
-        ensures left { result ≡ None →
-            IsLeft self.old.row_format.now.charset format.now.kind (buffered self.old.payload.now) 256 }
-        ensures cell { IfSome result (λ put.
-            CellRead R.remaining W.contents at.entry format.now.kind self.old self.new put) }
-    {
-        let mut text = [0u8; SCRATCH];
-        let cell = self
-            .row_format
-            .write_one(at, format, self.payload.buffered(), &mut text)?;
-        self.payload.consume(cell.used);
-        Some(self.sink.put(&text[..cell.made]))
-    }
-
-    // Reads the next cell, of a scalar kind, and puts its text. One near the packet's end, which is likely to be cut by
-    // it, is gathered.
-    fn put_scalar(&mut self, at: Cursor<'c>, format: &CellFormat) -> Result<(), Stop>
-        requires next { IsAtCell self.old at format.now }
-        requires scalar { IsTrue (kinds.is_scalar format.now.kind) }
-        ensures { CellRead R.remaining W.contents at.entry format.now.kind self.old self.new result }
-    {
-        if self.payload.buffered().len() < LONGEST_CELL {
-            return self.put_gathered(at, format);
-        }
-        match self.put_whole(at, format) {
-            Some(put) => put,
-            None => self.put_gathered(at, format),
-        }
-    }
-
-    // Reads the next cell, a long value of this content, and puts its field. A run that had more room than a small text has left
-    // it already.
-    fn put_long(
-        &mut self,
-        at: Cursor<'c>,
-        format: &CellFormat,
-        content: Content,
-        reach: Reach,
-    ) -> Result<(), Stop>
-        requires next { IsAtCell self.old at format.now }
-        requires long { shape_of_layout format.now.layout ≡ LongShape (conversion_of content) reach }
-        ensures { CellRead R.remaining W.contents at.entry format.now.kind self.old self.new result }
-    {
-        let last = self.row_format.is_last(at);
-        if self.sink.room() > SCRATCH {
-            return self.put_joined(content, reach, at.column, last);
-        }
-        match self.put_whole(at, format) {
-            Some(put) => put,
-            None => self.put_joined(content, reach, at.column, last),
-        }
-    }
-
     /// Reads the next cell, whatever its kind, and puts its text.
     #[inline(never)]
     pub(crate) fn put_cell(&mut self, at: Cursor<'c>, format: &CellFormat) -> Result<(), Stop>
         requires { IsAtCell self.old at format.now }
         ensures { CellRead R.remaining W.contents at.entry format.now.kind self.old self.new result }
     {
-        match format.layout {
-            Layout::Fixed(_) | Layout::Counted => self.put_scalar(at, format),
-            Layout::Short(content) => self.put_long(at, format, content, Reach::Short),
-            Layout::Chunked(content) => self.put_long(at, format, content, Reach::Chunked),
+        let mut text = [0u8; SCRATCH];
+        let bytes = self.payload.buffered();
+        match self.row_format.write_one(at, format, bytes, &mut text) {
+            Ok(cell) => {
+                self.payload.consume(cell.used);
+                self.sink.put(&text[..cell.made])
+            }
+            Err(Left::Cut) => self.put_gathered(at, format),
+            Err(Left::Refused(fault)) => self.refuse(at, &format.kind, fault),
+            Err(Left::Long(content, reach)) => {
+                let last = self.row_format.is_last(at);
+                self.put_joined(content, reach, at.column, last)
+            }
         }
     }
 }

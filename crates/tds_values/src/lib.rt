@@ -8,7 +8,7 @@
 //!
 //! ```text
 //! let mut to = [0; TEXT_ROOM];
-//! let made = write_scalar(&Kind::Int4, &[42, 0, 0, 0], &mut to)?; // to[..made] is "42"
+//! let made = write_scalar::<false>(&Kind::Int4, &[42, 0, 0, 0], &mut to)?; // to[..made] is "42"
 //! ```
 //!
 //! `read_scalar` returns the value itself and `scalar_text` its text, by crates of the kit: slower, and the same by

@@ -294,7 +294,11 @@ pub(crate) fn write_decimal(
 
 // A value of any scalar kind. Scale 7 of a time, which a column has if none is named, is a constant in what is inlined.
 #[inline(always)]
-fn write_any(kind: &Kind, bytes: &[u8], to: &mut [u8]) -> Result<usize, ValueFault>
+fn write_any<const COPY: bool>(
+    kind: &Kind,
+    bytes: &[u8],
+    to: &mut [u8],
+) -> Result<usize, ValueFault>
     requires valid { IsTrue (kinds.is_valid kind.now) }
     requires scalar { IsTrue (kinds.is_scalar kind.now) }
     requires room { TEXT_ROOM ≤ length to.old }
@@ -328,16 +332,20 @@ fn write_any(kind: &Kind, bytes: &[u8], to: &mut [u8]) -> Result<usize, ValueFau
 
 /// Writes the text of the value that `bytes` of a scalar kind spell, without their length, to the front of
 /// `to`, and returns how many bytes it has, at most 41; or the fault, if they spell none. What `to` holds
-/// after the text, and after a fault, isn't fixed.
+/// after the text, and after a fault, isn't fixed. `COPY` is that of [`write_front`](crate::write_front).
 #[inline(always)]
-pub fn write_scalar(kind: &Kind, bytes: &[u8], to: &mut [u8]) -> Result<usize, ValueFault>
+pub fn write_scalar<const COPY: bool>(
+    kind: &Kind,
+    bytes: &[u8],
+    to: &mut [u8],
+) -> Result<usize, ValueFault>
     requires valid { IsTrue (kinds.is_valid kind.now) }
     requires is_scalar { IsTrue (kinds.is_scalar kind.now) }
     requires room { TEXT_ROOM ≤ length to.old }
     ensures written { IfOk result (λ n. IsTextOf (read_of kind.now bytes.now) n to.new) }
     ensures refused { IfErr result (λ fault. read_of kind.now bytes.now ≡ Err fault) }
 {
-    write_any(kind, bytes, to)
+    write_any::<COPY>(kind, bytes, to)
 }
 
 /// How much room [`write_int4`] needs for a text, in bytes: it writes some bytes after the text too.

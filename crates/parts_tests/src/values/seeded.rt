@@ -117,7 +117,7 @@ fn have_one_text(rt: &impl Abort, kind: &Kind, bytes: &[u8]) -> bool {
         return false;
     };
     let mut room = [0xEE; TEXT_ROOM];
-    let Ok(length) = write_scalar(kind, bytes, &mut room) else {
+    let Ok(length) = write_scalar::<false>(kind, bytes, &mut room) else {
         return false;
     };
     scalar_text(&value).as_slice() == &room[..length]

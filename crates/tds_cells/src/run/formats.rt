@@ -54,7 +54,7 @@ fn write_fields(
     let most = to.len() - VALUE_ROOM;
     while cells < formats.len() && made <= most {
         let format = &formats[cells];
-        let Some(written) = write_cell(format, charset, rest, &mut to[made..]) else {
+        let Ok(written) = write_cell::<false>(format, charset, rest, &mut to[made..]) else {
             break;
         };
         cells += 1;

@@ -1,8 +1,8 @@
 // A scalar cell across the ends of packets: its bytes are gathered in the small area.
-ghost use Rattle.std.specs.Prelude.{◌≡◌, ◌≤◌, IsTrue, None, Some};
+ghost use Rattle.std.specs.Prelude.{◌≡◌, ◌+◌, ◌<◌, ◌≤◌, ◌^◌, IsTrue, None, Some};
 ghost use Rattle.tds_packet.specs.Payloads.{IsGoing};
 ghost use Rattle.tds_cells.specs.Cells.{ScalarBytes, ScalarLength, cell_start, shape};
-ghost use Rattle.tds_rows.specs.CellSteps.{CellGathered, IsGathering, LeavesGathering, longest_cell};
+ghost use Rattle.tds_rows.specs.CellSteps.{CellGathered, IsGathering, LeavesGathering, longest_cell, refusal};
 ghost use Rattle.tds_values.specs.Front.{value_start};
 ghost use Rattle.tds_values.specs.declared.charset.Charset as sets;
 ghost use Rattle.tds_values.specs.Kind as kinds;
@@ -11,7 +11,7 @@ use std::io::Read;
 use tds_columns::read_into;
 use tds_meter::Area;
 use tds_packet::{Fault, Payload, Stop};
-use tds_values::Kind;
+use tds_values::{Kind, ValueFault};
 
 /// The most bytes that a cell of a scalar kind has: a length and a decimal. A call that gathers such
 /// cells needs room for them in the small area.
@@ -30,6 +30,21 @@ pub(crate) fn length_size(kind: &Kind) -> usize
     match kind.fixed_length() {
         Some(_) => 0,
         None => 1,
+    }
+}
+
+/// The stop at a cell of a scalar kind that begins at `place`, whose value, or the length before it, is refused.
+pub(crate) fn refusal(fault: ValueFault, kind: &Kind, column: u16, place: u64) -> Stop
+    requires valid { IsTrue (kinds.is_valid kind.now) }
+    requires within { place + 1 < 2 ^ 64 }
+    ensures { result ≡ refusal kind.now column place fault }
+{
+    match fault {
+        ValueFault::Length => Stop::in_payload(Fault::BadValueLength { column }, place),
+        ValueFault::Value => {
+            let value = place + length_size(kind) as u64;
+            Stop::in_payload(Fault::BadValue { column }, value)
+        }
     }
 }
 
@@ -73,7 +88,7 @@ fn gather_counted<R: Read>(
         return Ok(());
     }
     if !kind.length_allowed(n) {
-        return Err(Stop::in_payload(Fault::BadValueLength { column }, place));
+        return Err(refusal(ValueFault::Length, kind, column, place));
     }
     read_into(payload, small, n as usize)
 }

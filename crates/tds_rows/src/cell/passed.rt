@@ -1,5 +1,5 @@
 // The value of a RETURNVALUE, which is passed over (MS-TDS, RETURNVALUE).
-ghost use Rattle.std.specs.Prelude.{◌<◌, ◌≤◌, IfOk, [], ◌≡◌, ◌++◌, ℕ, List, true, false, is_ok, length, None, Err, IfSome, IsTrue, MatchResult};
+ghost use Rattle.std.specs.Prelude.{◌<◌, ◌≤◌, IfOk, [], ◌≡◌, ◌++◌, ℕ, List, true, is_ok, length, None, Err, IfSome, IsTrue, MatchOption, MatchResult};
 ghost use Rattle.tds_packet.specs.Payloads.{IsGoing, IsSound, LeavesPayload, seen};
 ghost use Rattle.tds_rows.specs.PassedCells.{AnyData, CellPassed, CutsPassing, PassesData};
 ghost use Rattle.tds_text.specs.Conversion.{Conversion};
@@ -12,12 +12,12 @@ ghost use Rattle.tds_meter.specs.Counts.{Rose};
 ghost use Rattle.tds_values.specs.declared.kind.Kind.{Kind};
 ghost use Rattle.tds_values.specs.Kind as kinds;
 
-use crate::cell::gathered::{gather_scalar, length_size};
+use crate::cell::gathered::{gather_scalar, length_size, refusal};
 use crate::cell::lengths::{read_chunk_length, read_short_length, read_total};
 use std::io::Read;
 use tds_meter::Area;
-use tds_packet::{Fault, Payload, Stop};
-use tds_values::{Kind, Reach, read_scalar};
+use tds_packet::{Payload, Stop};
+use tds_values::{Kind, Reach, ValueFault, read_scalar};
 
 /// The column of the stops in the value of a RETURNVALUE.
 pub(crate) const RETURN_COLUMN: u16 = 65535;
@@ -79,18 +79,23 @@ fn pass_chunks<R: Read>(payload: &mut Payload<R>, unit: u64, total: Option<u64>)
     }
 }
 
-// Whether the value of a scalar cell is out of range; NULL isn't.
-fn is_refused(kind: &Kind, cell: &[u8]) -> bool
+// The fault of the value of a whole cell of a scalar kind; NULL has none.
+fn value_fault(kind: &Kind, cell: &[u8]) -> Option<ValueFault>
     requires valid { IsTrue (kinds.is_valid kind.now) }
     requires scalar { IsTrue (kinds.is_scalar kind.now) }
     requires whole { length cell.now ≡ scalar_size kind.now cell.now }
-    ensures refused { result ≡ true → (0 < value_length kind.now cell.now)
-        × (is_ok (read_of kind.now (value_bytes kind.now cell.now)) ≡ false) }
-    ensures good { result ≡ false → 0 < value_length kind.now cell.now →
-        is_ok (read_of kind.now (value_bytes kind.now cell.now)) ≡ true }
+    ensures { MatchOption result
+        (0 < value_length kind.now cell.now → is_ok (read_of kind.now (value_bytes kind.now cell.now)) ≡ true)
+        (λ fault. (0 < value_length kind.now cell.now) × (read_of kind.now (value_bytes kind.now cell.now) ≡ Err fault)) }
 {
     let start = length_size(kind);
-    start < cell.len() && read_scalar(kind, &cell[start..]).is_err()
+    if start == cell.len() {
+        return None;
+    }
+    match read_scalar(kind, &cell[start..]) {
+        Ok(_) => None,
+        Err(fault) => Some(fault),
+    }
 }
 
 // Passes over a value of a scalar kind, which is judged in the small area.
@@ -105,13 +110,10 @@ fn pass_scalar<R: Read>(payload: &mut Payload<R>, kind: &Kind, small: &mut Area)
 {
     let place = payload.place();
     gather_scalar(payload, kind, RETURN_COLUMN, small)?;
-    if is_refused(kind, small.bytes()) {
-        let fault = Fault::BadValue {
-            column: RETURN_COLUMN,
-        };
-        return Err(Stop::in_payload(fault, place + length_size(kind) as u64));
+    match value_fault(kind, small.bytes()) {
+        Some(fault) => Err(refusal(fault, kind, RETURN_COLUMN, place)),
+        None => Ok(()),
     }
-    Ok(())
 }
 
 // Passes over a long value, whose data has units of `unit` bytes.

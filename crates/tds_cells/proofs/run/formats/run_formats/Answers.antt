@@ -7,7 +7,6 @@ pub returns-then-run-eq0-clause-run : goal.returns-then-run-eq0-clause-run
 returns-then-run-eq0-clause-run c = record {
   within = search (arith, rules);
   ends = λ _. c.write_fields-run.ensures.ends c.if-run-eq0.true;
-  one = grind arith;
   cells = search (arith, rules);
 }
 

@@ -8,15 +8,15 @@ use Rattle.std.proofs.lemmas.List.{get_or-drop}
 pub loop-cells-preserved : goal.loop-cells-preserved
 loop-cells-preserved c =
     let l = c.loop-cells in
-    let written = c.in-Some.written in
+    let written = c.in-Ok.written in
     let formats = c.args.formats.now in
     let format = c.index-formats-cells.result in
     let bytes = c.args.bytes.now in
     let rest = l.rest.now in
     let format_is : format ≡ get_or formats l.cells format = search (arith, rules) in
     let now = N.all_after bytes (length bytes - length rest) ∙ sym l.invariant.rest in
-    let whole = rw format_is at (rw (sym now) at c.in-Some.ensures.cell.0.whole) in
-    let wrote = rw format_is at (rw (sym now) at c.in-Some.ensures.cell.1) in
+    let whole = rw format_is at (rw (sym now) at c.in-Ok.ensures.cell.0.whole) in
+    let wrote = rw format_is at (rw (sym now) at c.in-Ok.ensures.cell.1) in
     let left = left_after bytes rest written.used l.invariant.within l.invariant.rest (search (arith, rules)) in
     record {
       within = omega arith;

@@ -1,19 +1,30 @@
-use Rattle.tds_rows.proofs.rows.Rows.put_whole.Goals as goal
+use Rattle.tds_rows.proofs.rows.Rows.put_cell.Goals as goal
 use Rattle.tds_rows.proofs.Words as N
 use Rattle.tds_rows.proofs.Words.{◌≡◌, ◌∙◌, ◌+◌, ◌≤◌, ap, sym}
 use Rattle.tds_rows.proofs.RunPuts.{put_whole}
 
-pub returns-clause-cell : goal.returns-clause-cell
-returns-clause-cell g c =
+pub returns-in-Ok : goal.returns-in-Ok
+returns-in-Ok g c =
     let old = c.args.self.now in
-    let n = c.in_ok-cell.cell.used in
+    let n = c.in-Ok.cell.used in
     let lies : n ≤ N.length (N.buffered old.payload.now) = search N.arith in
     let at : c.consume.new.self.place ≡ old.payload.now.place + N.length _ =
     omega (N.arith, ap (λ p. p.place) c.consume.ensures.rest, N.length-take n (N.buffered old.payload.now)) in
     record {
       leaves = search N.arith;
       cell =
-          let alone = rw c.buffered.ensures at c.in_ok-cell.ensures.cell in
+          let alone = rw c.buffered-bytes.ensures at c.in-Ok.ensures.cell in
           put_whole _ _ _ _ _ c.requires.in_row.sink
           (c.consume.ensures.between c.requires.in_row.payload.going) alone.1.whole c.consume.ensures.gives at c.put.ensures;
+    }
+
+-- a long value is that of its kind
+pub returns-in-Err-Long : goal.returns-in-Err-Long
+returns-in-Err-Long g c =
+    let arm = c.in-Err-Long in
+    record {
+      leaves = c.put_joined.ensures.leaves;
+      cell =
+          let start = sym (ap (N.cell_start c.args.format.now.kind) (rw arm.field-0-is at arm.ensures.left)) in
+          rw start at (rw (arm.content-is, arm.reach-is, c.is_last-last.ensures) at c.put_joined.ensures.field);
     }
