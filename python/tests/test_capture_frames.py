@@ -1,6 +1,7 @@
 """Tests of `capture` by frames of each link and tunnel, and by connections that aren't as one expects."""
 from __future__ import annotations
 
+import itertools
 import random
 import struct
 import sys
@@ -103,6 +104,19 @@ class Frames(unittest.TestCase):
                 came = framed(one_exchange(), link, wrap)
                 self.assertIn(reason, came.accounts.unread if "short" not in reason and "header" not in reason else [reason])
                 self.assertEqual((came.answers, sum(came.accounts.unread.values()), came.accounts.meets()), ([], 8, True))
+
+    def test_fragments_of_tunnels(self) -> None:
+        """Their first fragments are told; those of other datagrams, and of other protocols, say nothing of a connection."""
+        made, plain = Conversation(CLIENT, SERVER), Plain()
+        whole = [plain.frame(segment, made) for segment in one_exchange()]
+        for (protocol, port), is_6, at in itertools.product(((17, 4789), (17, 8472), (17, 6081), (17, 53), (1, 4789)), (False, True), (0, 4)):
+            payload = struct.pack(">HHHH", 40000, port, 2000, 0) + bytes(800)
+            fragment = ipv4(protocol, payload)[:6] + struct.pack(">H", 0x2000 | at) + ipv4(protocol, payload)[8:]
+            if is_6:
+                fragment = struct.pack(">IHBB", 6 << 28, 8 + len(payload), 44, 64) + bytes(32) + struct.pack(">BBHI", protocol, 0, at << 3 | 1, 7) + payload
+            came = read(pcap(RAW, [*whole, fragment]))
+            with self.subTest(protocol=protocol, port=port, is_6=is_6, at=at):
+                self.assertEqual((came.answers, came.told), ([ANSWER], ["a fragment of IP"] * (port != 53 and protocol == 17 and not at)))
 
     def test_what_is_foreign_is_counted(self) -> None:
         """Frames of other protocols beside a connection say nothing of it; at most 20 kinds have a line."""

@@ -17,7 +17,7 @@ NO_TCP = {1, 2, 9, 33, 46, 58, 88, 89, 103, 112, 132, NO_NEXT}  # protocols of I
 SOURCE_ROUTES, SEGMENT_ROUTE = (0, 2), 4  # types of routing headers: the last address is that of the end; or the first is
 IPV4, IPV6, BRIDGED, ERSPAN, ANY_IP = 0x0800, 0x86DD, 0x6558, 0x88BE, 0x0200  # what is next: types of Ethernet, or IP by its version
 LEAST_ETHER_TYPE = 0x600  # below it is the length of a frame of IEEE 802.3
-VXLAN, OLD_VXLAN, GENEVE = 4789, 8472, 6081  # ports of UDP
+VXLAN, OLD_VXLAN, GENEVE = TUNNELS = 4789, 8472, 6081  # ports of UDP
 BEGINNINGS = (b"\x01", b"\x04", b"\x12")  # of packets of TDS by which a server on another port is known
 PART = 384  # bytes of a segment that are summed as one number
 TCP_HEADER = struct.Struct(">HHIIBBHHH")
@@ -101,9 +101,9 @@ def ipv4(cursor: Cursor) -> int:
     cursor.end = cursor.at + total if total else cursor.length
     if version >> 4 != 4 or head < 20 or total and total < head or cursor.end > cursor.length:
         raise Unread("a wrong header of IP")
-    if fragment & 0x3FFF:  # more follow, or it isn't the first
-        _refuse_fragment(protocol)
     cursor.at += head
+    if fragment & 0x3FFF:  # more follow, or it isn't the first
+        _refuse_fragment(cursor, protocol, not fragment & 0x1FFF)
     return int(protocol)
 
 
@@ -117,9 +117,10 @@ def ipv6(cursor: Cursor) -> int:
     while protocol in EXTENSIONS or protocol in (FRAGMENT, AUTHENTICATION):
         following, units = cursor.slice(0, 2)
         if protocol == FRAGMENT:
-            if cursor.unpack(U16, 2)[0] & 0xFFF9:
-                _refuse_fragment(following)
+            place, = cursor.unpack(U16, 2)
             cursor.at += 8
+            if place & 0xFFF9:
+                _refuse_fragment(cursor, following, place < 8)
         else:
             if protocol == ROUTING:
                 _route(cursor, (units + 1) * 8)
@@ -139,8 +140,9 @@ def _route(cursor: Cursor, length: int) -> None:
     cursor.addresses = cursor.addresses[:16] + cursor.slice(8 if kind == SEGMENT_ROUTE else length - 16, 16)
 
 
-def _refuse_fragment(protocol: int) -> None:
-    if protocol in NO_TCP or protocol == UDP:
+def _refuse_fragment(cursor: Cursor, protocol: int, is_first: bool) -> None:
+    """The first fragment of a datagram of UDP says whether that is of a tunnel."""
+    if protocol in NO_TCP or protocol == UDP and not (is_first and cursor.unpack(U16, 2)[0] in TUNNELS):
         raise Other
     raise Unread("a fragment of IP")
 
