@@ -21,7 +21,7 @@ from gavyreto.values import value_of
 TABLE = "outcomes.csv"
 TEXT, PARTIAL = ".csv", ".csv.partial"  # behind the name of what a text is of
 UNFINISHED = ".unfinished"  # at the end of the name of a text that waits for its own
-LONGEST_LINE = 1 << 20  # characters of a line of the table, more than any has
+TORN = re.compile(r'(?:(?:"[^"]*(?:""[^"]*)*"|[^",\r\n]+),)*(?:"[^"]*(?:""[^"]*)*"?|[^",\r\n]*)\r?')  # the beginning of a line
 # What the values of a field may be, by its annotation.
 KINDS: dict[str, tuple[type, ...]] = {"str": (str,), "int": (int,), "Optional[str]": (str, type(None))}
 
@@ -77,7 +77,7 @@ class Table(Generic[R]):
                 found, after = record_at(text, at)
                 values: list[Any] = [value_of(field) for field in found]
             except ValueError:
-                return records if len(text) - at < LONGEST_LINE else None
+                return records if TORN.fullmatch(text, at) else None
             if len(values) != len(self._kinds) or not all(isinstance(value, kind) for value, kind in zip(values, self._kinds)):
                 return None
             records.append(self._record(*values))

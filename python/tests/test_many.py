@@ -5,6 +5,7 @@ import contextlib
 import csv
 import filecmp
 import io
+import itertools
 import os
 import shutil
 import signal
@@ -15,7 +16,8 @@ import time
 import unittest
 from collections.abc import Callable, Iterator
 
-from gavyreto import tds
+from gavyreto import outcomes, tds
+from gavyreto.commands import many
 from tests import test_adapt
 from tests.beside import PROGRAM, ROOT, SECONDS, answered, is_waiting, need, responses, running_in, served, skip, started, wait_for, wire
 
@@ -322,6 +324,22 @@ class Here(Many):
                 self.assertEqual((status, os.listdir(folder)), (2, [name]), line)
                 with open(file.name, "rb") as left:
                     self.assertEqual(left.read(), data)
+
+    def test_a_table_that_is_cut_or_damaged(self) -> None:
+        """Of one that is cut anywhere the whole lines count; one that lacks a byte elsewhere, or has another, keeps its lines or is none."""
+        records = [many.Record(f"/in/{name}", 0, "sets 1", f"{name}.csv", 5, 1, 2, 3, 4, "--x", "p") for name in ("a", 'b"\r\nc', "d")]
+        table = outcomes.Table(self.path("in"), many.Record, "file")
+        lines = [table._header, *map(outcomes._line_of, records)]
+        whole, ends, is_refused = b"".join(lines), [*itertools.accumulate(map(len, lines))], 0
+        for at in range(ends[0], ends[-1] + 1):
+            self.assertEqual(table._records_in(whole[:at]), records[:sum(end <= at for end in ends) - 1])
+            for wrong in (b"", b'"', b"\r\n", b",", b"0"):
+                found = table._records_in(whole[:at] + wrong + whole[at + 1:])
+                is_refused += found is None
+                if at < ends[-2] - 2:
+                    with self.subTest(at=at, wrong=wrong):
+                        self.assertTrue(found is None or len(found) == 3, found)
+        self.assertGreater(is_refused, 100)
 
     def test_names_that_meet(self) -> None:
         """The text of another file of a later run, and that of a file with the name of the table."""
