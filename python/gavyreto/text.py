@@ -54,7 +54,7 @@ class Parser:
         else:
             fields[:], self._at = record_at(self._block, self._at)
         self._has_rows, self._row, self._before = False, None, ""
-        names = [it.value if isinstance(it, LongField) else value_of(it) for it in fields]
+        names = [it.value if isinstance(it, LongField) else value_of(it) if it.startswith(QUOTE) else None for it in fields]
         floats = self._floats(self.sets) or [False] * len(names)
         self._converters = [Converter(name, self.dates, is_float) for name, is_float in zip(names, floats) if isinstance(name, str)]
         if len(self._converters) != len(fields):

@@ -43,7 +43,7 @@ FLOAT = Shape("float", f'"{FLOATS.pattern}"', _float, True)
 BINARY = Shape("binary", "0x(?:[0-9a-f]{2})*", lambda field: bytes.fromhex(field.removeprefix("0x")))
 INTEGER = Shape("integer", "-?[0-9]+", int)
 DECIMAL = re.compile(r"-?[0-9]+\.([0-9]+)")
-MOMENT = re.compile(rf"({DAY})?(?:(?(1) )({CLOCK})(?:\.([0-9]{{1,7}}))?)?({OFFSET})?")
+MOMENT = re.compile(rf"({DAY})?(?:(?(1) )({CLOCK})(?:\.([0-9]{{1,7}}))?(?(1)({OFFSET})?))?")
 
 
 def shape_of(field: str, dates: Dates) -> Shape:

@@ -46,7 +46,8 @@ class Values(unittest.TestCase):
                 self.assertEqual(gavyreto.value_of(field), str(field) if isinstance(value, (date, time, UUID)) else value)
 
     def test_what_is_no_field(self) -> None:
-        for field in ("", "12:34", "1_000", "+1", " 1", "1.", "0x0", "0x0A", "0x0 0a", "null", '"a', '"a"b"', "2024-02-29T00:00:00", "nan", "١"):
+        for field in ("", "12:34", "1_000", "+1", " 1", "1.", "0x0", "0x0A", "0x0 0a", "null", '"a', '"a"b"', "2024-02-29T00:00:00", "nan", "١", " +01:00",
+                      "2024-02-29 +01:00", "12:34:56 +01:00"):
             with self.subTest(field=field), self.assertRaises(ValueError):
                 gavyreto.value_of(field)
 
@@ -201,6 +202,7 @@ class Malformed(unittest.TestCase):
         for wrong in (
             b"1,,2\r\n", b'3,"x"y\r\n', b"3\r\n", b'3,"z",4\r\n', b',"z"\r\n', b'3,"z"\r\n4\r\n', b'"3","z"\r\n', b"3,4\r\n", b"3,0x00\r\n", b'3.0,"z"\r\n',
             b'3,"z\xff"\r\n', b'3,"z"\r4,"z"\r\n', b'3,"z"\n4,"z"\r\n', b'\r\n\r\n"c"\r\n', b'\r\nc\r\n', b'\r\n1\r\n', b'\r\n"c",NULL\r\n',
+            b"\r\n2024-01-01\r\n", b'\r\n"c",12:34:56\r\n', b'\r\n6f9619ff-8b86-d011-b42d-00c04fc964ff,"c"\r\n',
         ):
             for step in (1, 1000):
                 with self.subTest(wrong=wrong, step=step), sets_of(self.ROWS + wrong, step) as came:
