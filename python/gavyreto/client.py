@@ -12,12 +12,12 @@ from gavyreto.payload import Descriptions, LateDescriptions, Payload, Write
 from gavyreto.program import CHARSETS, COLUMN_ROOM, MAX_WIRE, PACKET_SIZE_ASKED, PROGRAM, Program, command_of, path_of
 from gavyreto.response import Feeding, Response, adapt_all
 from gavyreto.rows import Row
-from gavyreto.text import Described, ResultSet
+from gavyreto.text import Described, ResultSet, Single
 from gavyreto.values import Dates, check_dates
 from gavyreto.where import PORT, SCHEME, where
 
 
-class Connection:
+class Connection(Single):
     """A connection to a server, on which statements are asked one after the other, by one thread at a time. A context that closes it.
 
     A transaction has to end in the statement that begins it: a statement after one that leaves a transaction open is refused

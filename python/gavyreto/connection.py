@@ -448,6 +448,7 @@ class Session(contextlib.AbstractContextManager["Session"]):
         self._is_sending = self._is_interrupted = self._is_early = False  # early: before the statement was sent
 
     def __exit__(self, *_: object) -> None:
+        self._process = os.getpid()
         self.close()
 
     def close(self, why: str = "a call of close") -> None:
@@ -471,7 +472,9 @@ class Session(contextlib.AbstractContextManager["Session"]):
 
     @contextlib.contextmanager
     def _open(self) -> Iterator[None]:
-        """What is done while the connection is open. Whatever ends it early closes the connection."""
+        """What is done while the connection is open. Whatever ends it early closes the connection; a process that was forked off is refused."""
+        if os.getpid() != self._process:
+            raise ConnectionFailed("the connection is another process's")
         if self.closed_after is not None:
             raise ConnectionFailed(f"the connection was closed after: {self.closed_after}")
         try:

@@ -200,7 +200,14 @@ def pass_over(field: Union[str, OpenField]) -> None:
         pass
 
 
-class Opened(io.IOBase):
+class Single:
+    """What has a place in a text that comes once: of two copies each would have a part of it."""
+
+    def __reduce__(self) -> NoReturn:
+        raise TypeError(f"{type(self).__name__} has no copies: what it reads comes once")
+
+
+class Opened(Single, io.IOBase):
     """A value, read from the text while it comes."""
 
     _piece: Any  # of it, the last that came; empty of its type before the first
@@ -259,7 +266,7 @@ class TextFile(Opened, io.TextIOBase):
     _piece = ""
 
 
-class ResultSet:
+class ResultSet(Single):
     """An iterator over the rows of one set, each a tuple with a value for each column, which `row.name` gives too.
 
     All calls take rows from one buffer, from its one place on. Rows that came before an error are handed out first: the error comes
@@ -496,12 +503,12 @@ def _file_of(value: Value) -> Union[None, io.BytesIO, io.StringIO]:
 T = TypeVar("T")
 
 
-class Sets:
+class Sets(Single):
     """An iterator over result sets, and a context that closes what it reads from.
 
     A reading is open, ended, failed or closed. After an error each further call raises that error again, and `Interrupted` after an
     exception from elsewhere, as that of Ctrl-C; after `close` before the end it raises ValueError. A second thread that reads at the
-    same time gets a ValueError."""
+    same time gets a ValueError, and so does a process that is forked off."""
 
     def __init__(self, read: Read, dates: Dates, descriptions: Optional[Descriptions] = None, adapts: bool = False) -> None:
         self.sets = 0  #: handed out so far
@@ -513,7 +520,7 @@ class Sets:
         self._failure: Optional[BaseException] = None
         self._is_untold = False  # whether rows before the failure were handed out, and it wasn't raised since
         self._is_closed = self._is_ended = self._is_only = False  # only: whether there may be one set alone
-        self._lock = threading.RLock()
+        self._lock, self._process = threading.RLock(), os.getpid()
 
     def _floats_of(self, place: int) -> list[bool]:
         """Which columns of a set have texts of floats; nothing if none has."""
@@ -561,8 +568,10 @@ class Sets:
             raise ValueError("the value that was opened before isn't closed")
 
     def _guarded(self, call: Callable[[], T]) -> T:
-        """What a call gives, within which one thread reads. Another one is refused meanwhile, and what ends it from elsewhere ends the
-        reading, up to the return: what it would have given is lost."""
+        """What a call gives, within which one thread reads. Another one is refused meanwhile, and so is a process that was forked off; what
+        ends it from elsewhere ends the reading, up to the return: what it would have given is lost."""
+        if os.getpid() != self._process:
+            raise ValueError("another process reads from here")
         if not self._lock.acquire(blocking=False):
             raise ValueError("another thread reads from here")
         try:

@@ -2,16 +2,19 @@
 from __future__ import annotations
 
 import contextlib
+import copy
 import io
 import os
+import pickle
 import random
 import socket
+import tempfile
 import threading
 import time
 import traceback
 import unittest
 from collections.abc import Callable
-from itertools import islice
+from itertools import islice, product
 from typing import Any, cast
 from unittest import mock
 
@@ -197,6 +200,37 @@ class Rows(unittest.TestCase):
         go_on.set()
         thread.join()
         self.assertEqual(len(found[0]), 10)
+
+    def test_copies_are_refused(self) -> None:
+        """Each would take a part of the text, and one of a set the next set for rows."""
+        came = text_of(b'"a"\r\n' + b'"x"\r\n' * 9 + b'\r\n"b"\r\n', 10)
+        rows = next(came)
+        with serving() as port, connected(port) as connection:
+            calls: list[Callable[[Any], Any]] = [copy.copy, copy.deepcopy, pickle.dumps]
+            for it, call in product((came, rows, rows.open(), connection), calls):
+                with self.subTest(type(it).__name__, call=call), self.assertRaisesRegex(TypeError, "has no copies"):
+                    call(it)
+
+    def test_a_process_that_is_forked_off_is_refused(self) -> None:
+        """What it took from the place that both have would be lost to the other."""
+        with tempfile.NamedTemporaryFile() as file, serving() as port, connected(port) as connection:
+            file.write(b'"a"\r\n' + b"1\r\n" * 100_000)
+            file.flush()
+            rows = gavyreto.read(file.name).only()
+            rows.fetchone()
+            calls: list[Callable[[], Any]] = [rows.fetchall, rows.fetchone, lambda: next(rows.batches(9)), rows.open, lambda: connection.query("SELECT 1", program=PROGRAM)]
+            for number, call in enumerate(calls):
+                if not (process := os.fork()):
+                    try:
+                        call()
+                        os._exit(1)
+                    except (ValueError, gavyreto.ConnectionFailed) as refused:
+                        os._exit(0 if "another process" in str(refused) else 2)
+                    finally:
+                        os._exit(3)
+                with self.subTest(number):
+                    self.assertEqual(os.waitpid(process, 0)[1], 0)
+            self.assertEqual(len(rows.fetchall()), 99_999)
 
     def test_the_time_is_linear(self) -> None:
         """Text with many quotes, in a column before one that is NULL in the first block only: twice the text takes about twice the time."""
