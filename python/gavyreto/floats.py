@@ -116,14 +116,16 @@ class Rows:
         self._plan = plan_of(described)
         self._layout = Layout(self._plan)
         self._plans: dict[bytes, Plan] = {}  # by the bitmaps of rows with NULL
+        self._wrong = b""  # the last bytes among whose rows is a value that none has: these are read one by one
 
     def convert(self, data: bytes, at: int) -> tuple[bytes, int]:
         """The rows that are whole in some bytes, from a place on at which a token begins, converted, and where they end: before a row whose
         values none has, too."""
         try:
-            found, end = self._found(data, at)
+            found, end = self._found(data, at) if data is not self._wrong else (Found(), at)
             return found.joined(), end
         except ValueError:
+            self._wrong = data
             return b"", at
 
     def _found(self, data: bytes, at: int) -> tuple[Found, int]:

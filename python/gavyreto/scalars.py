@@ -3,6 +3,7 @@ from __future__ import annotations
 
 import struct
 from datetime import date, timedelta
+from math import isfinite
 from typing import Callable, Sequence
 from uuid import UUID
 
@@ -88,7 +89,7 @@ def _spell(texts: list[str], values: Sequence[float], places: list[int], digits:
 
 
 def _check_numbers(values: Sequence[float]) -> None:
-    if any([value != value for value in values]):
+    if not all(map(isfinite, values)):
         raise ValueError("a float or real that is no number")
 
 

@@ -4,6 +4,7 @@ from __future__ import annotations
 import contextlib
 import gzip
 import io
+import itertools
 import lzma
 import os
 import random
@@ -13,9 +14,10 @@ import sys
 import tempfile
 import unittest
 from typing import Any, Optional
+from unittest import mock
 
 import gavyreto
-from gavyreto import tds
+from gavyreto import floats, tds
 from gavyreto.adapting import Adapter, variant_text
 from gavyreto.payload import Ended, Payload, descriptions
 from tests import test_readings
@@ -163,6 +165,25 @@ class Adapted(unittest.TestCase):
                 adapted(answered(*pieces, served.done()))
 
 
+    def test_floats_that_are_no_number(self) -> None:
+        """Infinities, and what isn't a number at all: alone, behind rows that are converted at once, and in a sql_variant. What comes before is written."""
+        for (type_info, form), value, count in itertools.product((("6D08", "<d"), ("6D04", "<f"), ("3E", "<d"), ("3B", "<f")), ("inf", "-inf", "nan"), (0, 5, 500)):
+            column = responses.Column("x", type_info, responses.fixed if len(type_info) == 2 else responses.short, responses.as_it_is, bytes)
+            rows = b"".join(responses.row([column], [struct.pack(form, float(it))]) for it in ["0.5"] * count + [value])
+            out = io.BytesIO()
+            with self.subTest(type_info=type_info, value=value, count=count):
+                with self.assertRaisesRegex(ValueError, "no number"):
+                    Adapter(io.BytesIO(answered(responses.description([column]), rows, served.done())).read, out.write, "windows-1252").run()
+                self.assertEqual(exported(out.getvalue())[1], b'"x"\r\n' + b'"0.5"\r\n' * count)
+            self.assertIsNone(variant_text_or_none(0x3E if form == "<d" else 0x3B, b"", struct.pack(form, float(value))))
+
+    def test_rows_before_what_is_no_number_are_tried_once(self) -> None:
+        """At once; then each is read by itself, so that a packet of many takes no more than twice the time of its rows."""
+        column, values = responses.Column("x", "3B", responses.fixed, responses.as_it_is, bytes), ["0.5"] * 6000 + ["nan"]
+        data = answered(responses.description([column]), b"".join(responses.row([column], [struct.pack("<f", float(it))]) for it in values), served.done())
+        with mock.patch.object(floats, "spelt", wraps=floats.spelt) as spelt, self.assertRaises(ValueError):
+            adapted(data)
+        self.assertLess(sum(len(call.args[1]) for call in spelt.call_args_list), 2 * len(values))
     def test_values_of_a_sql_variant_that_none_has(self) -> None:
         """Each base type with lengths, scales and values in and out of their ranges is read or refused as a plain reading does."""
         numbers, counts, wrong = random.Random(2), {True: 0, False: 0}, []
