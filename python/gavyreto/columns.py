@@ -43,7 +43,7 @@ LENGTHY: dict[int, str] = {
     DataType.VARBINARY: "varbinary", DataType.VARCHAR: "varchar", DataType.BINARY: "binary", DataType.CHAR: "char",
     DataType.NVARCHAR: "nvarchar", DataType.NCHAR: "nchar",
 }
-WHOLE = ("tinyint", "smallint", "int", "bigint")
+WHOLE, BINARY = ("tinyint", "smallint", "int", "bigint"), ("binary", "varbinary", "rowversion")
 FLOATS = ("float", "real")
 
 
@@ -89,6 +89,11 @@ class Column(NamedTuple):
     scale: Optional[int]  #: digits after the point, of a decimal or a second
     nullable: bool
 
+    @property
+    def kind(self) -> str:
+        """The type without its length or digits; "" of a CLR type, whose name has dots."""
+        return "" if "." in self.type else self.type.partition("(")[0]
+
 
 def read_type(need: Need) -> Type:
     """Reads a type from its byte on. Raises ValueError for one that MS-TDS doesn't have."""
@@ -125,7 +130,7 @@ def _xml(need: Need) -> Type:
 def _clr(need: Need) -> Type:
     """The length, the names of database, schema and type, and that of the assembly."""
     length, names = need(2), [_counted_by_one(need) for _ in range(3)]
-    name = ".".join(it[1:].decode("utf-16-le", "replace") for it in names if len(it) > 1)
+    name = ".".join(it[1:].decode("utf-16-le", "replace") for it in names)
     return Type(DataType.UDT, length + b"".join(names) + _counted_by_two(need), int.from_bytes(length, "little"), name=name)
 
 
@@ -189,15 +194,11 @@ def read_column(need: Need) -> Described:
 
 # Tables that have room for all values of a column, as `gavyreto.export` gives them.
 
-def _whole(type_: str) -> bool:
-    return type_ in WHOLE or type_.startswith(("decimal", "numeric")) and type_.endswith(",0)")
-
-
 def sqlite_type(column: Column) -> str:
     """The type of a column of SQLite, in which each value is stored as it is: decimals and dates as text, with all digits."""
     if column.type in ("bit", *WHOLE):
         return "INTEGER"
-    return "BLOB" if column.type.startswith(("binary", "varbinary", "rowversion")) else "TEXT"
+    return "BLOB" if column.kind in BINARY else "TEXT"
 
 
 def postgresql_type(column: Column) -> str:
@@ -207,14 +208,14 @@ def postgresql_type(column: Column) -> str:
         "tinyint": "smallint", "smallint": "smallint", "int": "integer", "bigint": "bigint", "bit": "boolean", "uniqueidentifier": "uuid",
         "date": "date", "smalldatetime": "timestamp(0)", "datetime": "timestamp(3)", "smallmoney": "numeric(10,4)", "money": "numeric(19,4)",
     }
-    kind = column.type.partition("(")[0]
-    if column.type in known:
-        return known[column.type]
+    kind = column.kind
+    if kind in known:
+        return known[kind]
     if kind in ("decimal", "numeric"):
         return f"numeric({column.precision},{column.scale})"
     if kind in ("time", "datetime2") and column.scale != 7:
         return f"{'time' if kind == 'time' else 'timestamp'}({column.scale})"
-    return "bytea" if kind in ("binary", "varbinary", "rowversion") else "text"
+    return "bytea" if kind in BINARY else "text"
 
 
 def create_table(table: str, columns: list[Column], type_of: Callable[[Column], str]) -> str:

@@ -20,7 +20,7 @@ class Gathered:
     """The values of a column, in an array for each batch of rows, and then as a series. Values that a batch has often are held once."""
 
     def __init__(self, column: Optional[Column], is_dated: bool) -> None:
-        kind = column.type.partition("(")[0] if column else ""
+        kind = column.kind if column else ""
         self._kind = KINDS.get(kind, "") if kind not in FLOATS else FLOATS[kind]
         self._is_known = column is not None
         self._is_moment = is_dated and kind in MOMENTS

@@ -19,6 +19,7 @@ from unittest import mock
 import gavyreto
 from gavyreto import floats, tds
 from gavyreto.adapting import Adapter, variant_text
+from gavyreto.columns import postgresql_type, sqlite_type
 from gavyreto.payload import Ended, Payload, descriptions
 from tests import test_readings
 from tests.beside import PROGRAM, Live, answered, need, responses, served, serving, started, wire
@@ -164,7 +165,6 @@ class Adapted(unittest.TestCase):
             with self.subTest(pieces=pieces), self.assertRaises(ValueError):
                 adapted(answered(*pieces, served.done()))
 
-
     def test_floats_that_are_no_number(self) -> None:
         """Infinities, and what isn't a number at all: alone, behind rows that are converted at once, and in a sql_variant. What comes before is written."""
         for (type_info, form), value, count in itertools.product((("6D08", "<d"), ("6D04", "<f"), ("3E", "<d"), ("3B", "<f")), ("inf", "-inf", "nan"), (0, 5, 500)):
@@ -184,6 +184,7 @@ class Adapted(unittest.TestCase):
         with mock.patch.object(floats, "spelt", wraps=floats.spelt) as spelt, self.assertRaises(ValueError):
             adapted(data)
         self.assertLess(sum(len(call.args[1]) for call in spelt.call_args_list), 2 * len(values))
+
     def test_values_of_a_sql_variant_that_none_has(self) -> None:
         """Each base type with lengths, scales and values in and out of their ranges is read or refused as a plain reading does."""
         numbers, counts, wrong = random.Random(2), {True: 0, False: 0}, []
@@ -251,6 +252,17 @@ def variant_text_or_none(byte: int, properties: bytes, data: bytes) -> Optional[
 
 
 class FromPython(unittest.TestCase):
+    def test_clr_types_with_names_of_others(self) -> None:
+        """Their values stay bytes, and a table for them has no column of numbers."""
+        for parts in itertools.product(("", "int(", "binary"), ("", "sys"), ("int", "float", "bit", "decimal(5,0)", "date", "datetime2(3)", "")):
+            info = "F0FFFF" + responses.names(*parts) + "0000"
+            column = responses.Column("c", info, responses.chunked, responses.as_it_is, bytes)
+            data = answered(responses.description([column]), responses.row([column], [b"12"]), served.done())
+            with self.subTest(parts=parts):
+                rows = gavyreto.export(data, program=PROGRAM, adapt=True).only()
+                self.assertEqual(([(it.type, it.kind) for it in rows.columns or []], list(rows)), ([(".".join(parts), "")], [(b"12",)]))
+                self.assertEqual([type_of(it) for it in rows.columns or [] for type_of in (sqlite_type, postgresql_type)], ["TEXT", "text"])
+
     def test_rows_of_each_refused_kind(self) -> None:
         """Of any source, live and recorded: the values of the text, floats as such, and the columns as they came."""
         data = wire("refused", 0, 512)

@@ -30,6 +30,11 @@ with tempfile.NamedTemporaryFile() as file:
     file.write(b'"a","b","a","c"\\r\\n1,"x",NULL,1.50\\r\\nNULL,NULL,NULL,99999999999999999999999999999999999.00\\r\\n')
     file.flush()
     table = next(gavyreto.read(file.name)).frame()
+responses, served = beside.responses, beside.served
+for parts in ("", "", "int"), ("int(", "sys", "t"):
+    column = responses.Column("c", "F0FFFF" + responses.names(*parts) + "0000", responses.chunked, responses.as_it_is, bytes)
+    data = beside.answered(responses.description([column]), responses.row([column], [b"12"]), served.done())
+    assert gavyreto.export(data, program=program, adapt=True).only().frame()["c"].tolist() == [b"12"], parts
 # no package of Debian has pyarrow: what it is asked for
 import types
 class Table:
