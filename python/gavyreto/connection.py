@@ -350,6 +350,8 @@ def context_of(certificates: Optional[str], trust_server: bool) -> ssl.SSLContex
 
 def contexts_of(certificates: Optional[str], trust_server: bool) -> Callable[[], ssl.SSLContext]:
     """The same, made at once if a file has to be read for it, or when it is called."""
+    if certificates == "":
+        raise ValueError("certificates is the name of a file, and empty: the system's authorities would be trusted")
     made = context_of(certificates, trust_server) if certificates else None
     return lambda: made or context_of(None, trust_server)
 
@@ -446,9 +448,9 @@ class Session(contextlib.AbstractContextManager["Session"]):
         self._framing: Optional[tds.Framing] = None  # of the answer under way
         self._unsent: Optional[OSError] = None  # what ended the sending of a statement whose answer may have come
         self._is_sending = self._is_interrupted = self._is_early = False  # early: before the statement was sent
+        self._process = os.getpid()
 
     def __exit__(self, *_: object) -> None:
-        self._process = os.getpid()
         self.close()
 
     def close(self, why: str = "a call of close") -> None:

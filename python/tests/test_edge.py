@@ -13,8 +13,9 @@ import unittest
 from collections.abc import Callable
 from typing import Any
 
+import gavyreto
 from gavyreto import tds
-from gavyreto.where import Where
+from gavyreto.where import OF_URL, Where
 from gavyreto.commands.query import arguments, server
 from gavyreto.connection import Channel
 from gavyreto.tds import PacketType
@@ -73,7 +74,8 @@ class Arguments(Live):
              ("db.example", 1500, "A", "Ann Lee", "sales/1", (("encrypt", "login"), ("trust-server", "1")))), ("MSSQL://[::1]:99/", ("::1", 99)),
         ):
             self.assertEqual(server(text), (*wanted, *Where("")[len(wanted):]))
-        for text in ("mssql://", "mssql://h:x", "mssql://h:0", "mssql://h?trust-server=maybe", "mssql://h/a/b", "mssql://h?x=1", "mssql://h?encrypt=a&encrypt=b", "mssql://h#x", "h:1433", "h\\", "\\i"):
+        for text in ("mssql://", "mssql://h:x", "mssql://h:0", "mssql://h?trust-server=maybe", "mssql://h/a/b", "mssql://h?x=1", "mssql://h?encrypt=a&encrypt=b", "mssql://h#x", "h:1433", "h\\", "\\i",
+                     "mssql://caf%E9@h", "mssql://h/%ff", "mssql://h?certificates=%ff", *(f"mssql://h?{name}=" for name in ("instance", *OF_URL) if name != "trust-server")):
             with self.subTest(text=text), self.assertRaises(argparse.ArgumentTypeError):
                 server(text)
 
@@ -158,10 +160,17 @@ class Outputs(Live):
 
     def test_names_that_are_empty(self) -> None:
         """As a variable leaves them that isn't set."""
-        for words in ("-o ''", "--packets ''", "-i ''", "--tables '' -o out"):
+        for words in (
+            "-o ''", "--packets ''", "-i ''", "--tables '' -o out", "-U ''", "-d ''", "--certificates ''", "--certificate-name ''", "--access-token-file ''",
+        ):
             came = self.query(f"TRUSTED {words} 'SELECT 1'", ("--record", "sent"))
             self.assertEqual((came.returncode, came.stdout, came.stderr.splitlines()[-1][-13:]), (2, b"", b"an empty name"))
         self.assertFalse(os.path.exists(self.path("sent")))
+        for words in ("columns --table '' orders.tds", "many '' out", "many orders.tds ''", "many --scheduler '' orders.tds out"):
+            came = self.beside((), f"{sys.executable} -m gavyreto {words}")
+            self.assertEqual((came.returncode, came.stdout, came.stderr.splitlines()[-1][-13:]), (2, b"", b"an empty name"))
+        with self.assertRaisesRegex(ValueError, "the system's authorities would be trusted"):
+            gavyreto.connect("localhost", user="u", certificates="")
 
     def test_names_that_get_too_long(self) -> None:
         """Of ten outputs the last has a name that is too long until its text is whole: nothing is sent."""

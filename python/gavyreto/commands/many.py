@@ -23,7 +23,7 @@ from types import TracebackType
 from typing import Any, Iterator, Optional, Union
 
 from gavyreto import outcomes
-from gavyreto.commands.common import STANDARD_ERROR, STREAMS, Stopped, add_options_of_program, cause_of, checked_program, command_for, number_in, parser_of
+from gavyreto.commands.common import STANDARD_ERROR, STREAMS, Stopped, add_options_of_program, cause_of, checked_program, command_for, named, number_in, parser_of
 from gavyreto.exporting import Outcome, Stamp, end_all, export_file, stamp_of, version_of
 from gavyreto.outcomes import PARTIAL, TABLE, TEXT, Progress, locked, remove_unfinished, summed
 from gavyreto.program import DONE, FAILED, INTERRUPTED, REFUSED, SERVER_ERROR
@@ -240,11 +240,11 @@ def arguments(words: list[str]) -> argparse.Namespace:
     parser = parser_of("many", __doc__)
     add = parser.add_argument
     add("-j", "--jobs", metavar="N", type=number_in(1, 1024), default=len(os.sched_getaffinity(0)), help="responses read at once (default: the number of processors)")
-    add("--scheduler", metavar="WHERE", help="a Dask cluster: its address, or its scheduler file; each worker must see FILE and OUT under the same paths")
+    add("--scheduler", metavar="WHERE", type=named, help="a Dask cluster: its address, or its scheduler file; each worker must see FILE and OUT under the same paths")
     add("--adapt", action="store_true", help="rewrite columns that tds_replay refuses, as the command adapt does")
     add_options_of_program(parser)
-    add("files", metavar="FILE", nargs="+", help="responses, or folders of them")
-    add("out", metavar="OUT", help="the folder of the texts, which is made if it isn't there")
+    add("files", metavar="FILE", nargs="+", type=named, help="responses, or folders of them")
+    add("out", metavar="OUT", type=named, help="the folder of the texts, which is made if it isn't there")
     asked = parser.parse_args(words)
     asked.out = os.path.abspath(asked.out)
     return asked

@@ -328,10 +328,10 @@ def add_login(add: Callable[..., object]) -> None:
     """The options of where a server is, and of the login."""
     add("-S", "--server", metavar="HOST[,PORT]", type=server, default=os.environ.get("SQLCMDSERVER") or None,
         help="name of the server, as in its certificate, or its address; or HOST\\INSTANCE, or mssql://USER@HOST:PORT/DATABASE?OPTION=VALUE (default: SQLCMDSERVER)")
-    add("-U", "--user", metavar="NAME", help="login name (default: SQLCMDUSER)")
+    add("-U", "--user", metavar="NAME", type=named, help="login name (default: SQLCMDUSER)")
     add("-E", "--integrated", action="store_true", help="login by Kerberos, as the user of the ticket; needs Debian's python3-gssapi")
-    add("--access-token-file", metavar="FILE", help=f"login by the access token of Entra ID in this file (default: the variable {OF_TOKEN})")
-    add("-d", "--database", metavar="NAME", default=os.environ.get("SQLCMDDBNAME", ""), help="database to use (default: SQLCMDDBNAME, else the user's)")
+    add("--access-token-file", metavar="FILE", type=named, help=f"login by the access token of Entra ID in this file (default: the variable {OF_TOKEN})")
+    add("-d", "--database", metavar="NAME", type=named, default=os.environ.get("SQLCMDDBNAME") or None, help="database to use (default: SQLCMDDBNAME, else the user's)")
 
 
 def add_outputs(add: Callable[..., object]) -> None:
@@ -352,8 +352,8 @@ def add_connection(add: Callable[..., object]) -> None:
         help="minimum encryption (default: all); a server that asks for more gets it")
     add("-N", dest="encrypt", metavar="m|o", help="same as --encrypt all, with o as --encrypt login")
     add("-C", "--trust-server", action="store_true", help="accept any certificate: whoever is between can read everything")
-    add("--certificates", metavar="FILE", help="authorities to trust instead of the system's, in PEM")
-    add("--certificate-name", metavar="NAME", help="name in the certificate (default: HOST), also in that of a server to which HOST redirects")
+    add("--certificates", metavar="FILE", type=named, help="authorities to trust instead of the system's, in PEM")
+    add("--certificate-name", metavar="NAME", type=named, help="name in the certificate (default: HOST), also in that of a server to which HOST redirects")
     add("--seconds", metavar="N", type=number_in(1, connection.MOST_SECONDS), default=connection.SECONDS,
         help=f"longest time that the server may be silent, 1 to {connection.MOST_SECONDS} (default: {connection.SECONDS})")
     add("--login-seconds", metavar="N", type=number_in(1, connection.MOST_SECONDS), default=None,
@@ -377,7 +377,7 @@ def arguments(words: list[str]) -> argparse.Namespace:
         parser.error("-S HOST is needed, or the variable SQLCMDSERVER")
     if own := words_of(asked.server):
         asked = parser.parse_args(own + words)
-    asked.output = None if asked.output == "-" else asked.output
+    asked.output, asked.database = None if asked.output == "-" else asked.output, asked.database or ""
     if wrong := wrong_in(asked):
         parser.error(wrong)
     asked.login_seconds = asked.login_seconds or seconds_of_login()
