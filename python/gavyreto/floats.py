@@ -86,7 +86,7 @@ def plan_of(described: list[Described]) -> Plan:
         is_counted = column.type.byte not in FIXED
         plan.append(Step(ways, column.type.length or 0 if is_counted else FIXED[column.type.byte], is_counted))
         ways = []
-    return [*plan, Step(ways)] if ways else plan
+    return [*plan, Step(ways)] if ways or not plan else plan  # of no columns there is the beginning of the row
 
 
 class Found:

@@ -143,6 +143,19 @@ class Adapted(unittest.TestCase):
             whole, cut = (adapted(b"".join(tds.packets(pieces, size))) for size in (32767, 40))
             self.assertEqual(payload_of(whole), payload_of(cut))
 
+    def test_rows_of_nothing_but_null(self) -> None:
+        """As NBCROW they have no value, and stay rows; alone, beside each other, and among rows that have some."""
+        kinds = {"6D08": ("0.5", responses.double), "6D04": ("0.5", responses.single), "2604": ("7", responses.whole(4)), "E7FFFF": ("x", responses.wide)}
+        for described, rows, size in itertools.product(("6D08", "6D04 6D08", "2604 6D04", "6D08 E7FFFF 6D08"), ("0", "00", "010", "100" * 30), (40, 32767)):
+            infos = described.split()
+            columns = [responses.Column("x", info, responses.chunked if info == "E7FFFF" else responses.short, kinds[info][1], str) for info in infos]
+            values = [[kinds[info][0] if it == "1" else None for info in infos] for it in rows]
+            lines = [['"x"'] * len(infos), *([it if it == "7" else quoted(it) for it in line] for line in values)]
+            text = "".join(",".join(line) + "\r\n" for line in lines)
+            data = b"".join(tds.packets([responses.description(columns), *(responses.row_with_bitmap(columns, it) for it in values), served.done()], size))
+            with self.subTest(infos=infos, rows=rows, size=size):
+                self.assertEqual(exported(adapted(data)), (0, text.encode()))
+
     def test_responses_that_end_early(self) -> None:
         """What came before is written, so the program names the same place of the wire or the payload."""
         data = wire("refused", 0, 512)
