@@ -173,7 +173,7 @@ def export(
 
     Raises OSError if the file or the program can't be opened, ValueError if the source is closed or doesn't block, TypeError
     for another source. While the sets and rows are read, once all that came before is handed out, it raises Fault,
-    ServerError or ProgramFailed, and what a method `read` of the source raised."""
+    ServerError or ProgramFailed, and what a method `read` of the source raised; RuntimeError if that is StopIteration."""
     check_dates(dates)
     command = command_of(program, packet_size, column_room, max_wire, charset)
     if adapt:
@@ -287,6 +287,8 @@ def _guarded(read: Callable[[int], Optional[bytes]]) -> Read:
     def reads(most: int) -> bytes:
         try:
             data = read(most)
+        except StopIteration:  # who reads rows would take it for their end
+            raise ReadFailed(RuntimeError("the source raised StopIteration")) from None
         except Exception as failure:
             raise ReadFailed(failure) from None
         if data is None:

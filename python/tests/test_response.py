@@ -258,10 +258,11 @@ class Sources(unittest.TestCase):
         self.assertEqual([row[0] for row in rows[:3]], [1, 2, 3])
 
     def test_a_read_that_fails_once(self) -> None:
-        """What it raises is raised, also what the package itself raises of a response that it can't follow. Nothing is read after it."""
+        """What it raises is raised, also what the package itself raises of a response that it can't follow, and StopIteration as another
+        exception. Nothing is read after it."""
         packets, chance = wire("orders", 300, 512), random.Random(7)
         for place in [0, *chance.sample(range(1, len(packets)), 15)]:
-            for failure in (ValueError("once"), None):
+            for failure, kind in ((ValueError("once"), ValueError), (StopIteration(), RuntimeError), (None, BlockingIOError)):
                 for adapt in (False, True):
                     data, failures = io.BytesIO(packets), [failure]
 
@@ -273,7 +274,7 @@ class Sources(unittest.TestCase):
                         return data.read(min(most, place - data.tell()) if failures else most)
 
                     source: Any = SimpleNamespace(read=read)
-                    with self.subTest(place=place, adapt=adapt), self.assertRaises(type(failure) if failure else BlockingIOError):
+                    with self.subTest(place=place, adapt=adapt), self.assertRaises(kind):
                         all_of(export(source, adapt=adapt))
                     self.assertEqual(data.tell(), place)
 
