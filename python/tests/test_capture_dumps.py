@@ -70,6 +70,16 @@ class Dumps(unittest.TestCase):
                 self.assertEqual((came.answers, came.told, came.accounts.connections), ([first, second], [], 2))
                 self.assertTrue(came.accounts.meets())
 
+    def test_packets_that_are_lost_behind_a_greeting(self) -> None:
+        """What comes next, but for a login's answer, is told, and is never taken for the answer to the greeting."""
+        (one, first), (other, second) = exchange(51, 1), exchange(51, 2)
+        lines = [*login(51), *one, *other]
+        for end in range(3, len(lines)):
+            came = read(dumped(lines[:1] + lines[end:]))
+            with self.subTest(end):
+                self.assertTrue(came.told, came.accounts.line())
+                self.assertEqual(came.answers, [first] * (end < 5) + [second] * (end < 9))
+
     def test_packets_after_other_lines(self) -> None:
         one, first = exchange(51, 1)
         came = read(dumped([*login(51), *one], "log.c:1: no packet yet\n" * 1000))

@@ -209,6 +209,19 @@ class Names(unittest.TestCase):
         self.assert_names(came, ["SELECT 1", "SELECT 2", "SELECT 3"])
         self.assertEqual(came.told, ["no answer to it came"])
 
+    def test_what_answers_a_login(self) -> None:
+        """It is accepted or refused, and may be asked in turn; an answer with rows is told."""
+        changed, refused, done = bytes([0xE3, 3, 0, 1, 0, 0]), bytes([0xAA, 2, 0, 1, 2]), bytes([0xFD]) + bytes(12)
+        accepted, asked = bytes([0xAD, 1, 0, 1]), bytes([0xED, 1, 0, 1])
+        for tokens in (accepted + done, changed + accepted + done, changed + bytes([0xAE, 0xFF]) + accepted + done, refused + done, asked):
+            made = Talk().open().send(True, packets(0x12, GREETING, 4096, 0)).send(False, packets(4, GREETING, 4096, 0))
+            came = come(made.send(True, packets(0x10, bytes(200), 4096, 0)).send(False, packets(4, tokens, 4096, 51)))
+            with self.subTest(tokens):
+                self.assertEqual((came.answers, came.told, came.accounts.in_logins), ([], [], 8 + len(tokens)))
+        for kind in (0x10, 0x12):
+            came = come(Talk().open().send(True, packets(kind, GREETING, 4096, 0)).send(False, answer(1)))
+            self.assertEqual((came.answers, came.told, came.accounts.meets()), ([answer(1)], ["nothing was asked for before the answer that follows"], True))
+
     def test_an_alert_after_the_login(self) -> None:
         """The end of the login's TLS asks for nothing."""
         made = Talk().open().send(True, packets(0x12, GREETING, 4096, 0)).send(False, packets(4, GREETING, 4096, 0))

@@ -200,7 +200,7 @@ class Answers:
         """The answer under way has ended."""
         answer, self._answer = self._answer, None
         assert answer
-        kind = answer.request.kind if answer.request else self._kind_of(answer)
+        kind = self._kind_of(answer)
         if not answer.packets.is_whole and not answer.why:
             answer.why = "the connection ends within it"
         if kind in (Asked.GREETING, Asked.LOGIN) and answer.packets.is_whole and not answer.why:
@@ -209,7 +209,7 @@ class Answers:
             self._accounts.in_acknowledgements += answer.length
             answer.kept.drop()
         else:
-            if kind is Asked.ATTENTION:
+            if kind is Asked.ATTENTION or kind is None and answer.packets.is_whole:
                 answer.request = None
             self._end_answer(answer)
 
@@ -237,15 +237,16 @@ class Answers:
         self._desk.answer(self._sides, answer)
 
     def _kind_of(self, answer: Answer) -> Optional[Asked]:
-        """What an answer is whose request isn't there: greeting or login only before all statements."""
-        if self._answered or self._asked is not None and self._asked <= self.begun:
-            return None
-        if answer.kept.first(1) == bytes([PacketType.PRELOGIN]):
-            return Asked.GREETING
+        """What an answer is: what was asked for, but a greeting or a login only if its bytes are those of an answer to one; if its request
+        isn't there, it is either only before all statements."""
+        asked = answer.request.kind if answer.request else None
+        if asked not in (None, *HANDSHAKE) or not asked and (self._answered or self._asked is not None and self._asked <= self.begun):
+            return asked
         payload = answer.kept.first(tds.GREATEST_PACKET_SIZE)[tds.HEADER:]
-        if not self._greeted and is_greeting(payload):
+        is_handshake = answer.kept.first(1) == bytes([PacketType.PRELOGIN]) or asked and is_record(payload)
+        if is_handshake or (asked or not self._greeted) and is_greeting(payload):
             return Asked.GREETING
-        return Asked.LOGIN if is_login(payload) else None
+        return Asked.LOGIN if is_login(payload, asked is Asked.LOGIN) else None
 
     # The end.
 

@@ -217,10 +217,11 @@ LOGIN_TOKENS = (tds.Token.ENV_CHANGE, tds.Token.INFO, tds.Token.ERROR)  # what c
 FEDERATED_ANSWER = 0xEE  # what a server asks in turn (MS-TDS, FEDAUTHINFO), beside tickets
 
 
-def is_login(payload: bytes) -> bool:
+def is_login(payload: bytes, is_asked: bool) -> bool:
     """Whether a payload begins as the answer to a login: with a LOGINACK, after changes and messages only, or with what is asked of the
-    client in turn."""
+    client in turn; if one was asked for, it may be refused, too, and features may come first."""
     at = 0
     while at < len(payload) and payload[at] in LOGIN_TOKENS:
         at += 3 + int.from_bytes(payload[at + 1:at + 3], "little")
-    return at < len(payload) and payload[at] in (tds.Token.LOGIN_ACK, tds.Token.TICKET, FEDERATED_ANSWER)
+    others = (tds.Token.DONE, tds.Token.FEATURES) if is_asked and at else ()
+    return at < len(payload) and payload[at] in (tds.Token.LOGIN_ACK, tds.Token.TICKET, FEDERATED_ANSWER, *others)
