@@ -60,10 +60,6 @@ def _old(payload: Payload, type_: Type) -> Iterator[bytes]:
     yield NO_MORE
 
 
-def _same(payload: Payload, type_: Type) -> Iterator[bytes]:
-    return cell(payload, type_)
-
-
 def _variant(charset: str) -> Convert:
     def convert(payload: Payload, _: Type) -> Iterator[bytes]:
         length = payload.number(4)
@@ -111,9 +107,9 @@ def adapted(type_: Type, charset: str) -> Optional[Adapted]:
     if type_.byte == DataType.IMAGE:
         return Adapted(bytes([DataType.VARBINARY]) + MAX, _old)
     if type_.byte == DataType.UDT:
-        return Adapted(bytes([DataType.VARBINARY]) + MAX, _same)
+        return Adapted(bytes([DataType.VARBINARY]) + MAX, cell)
     if type_.byte == DataType.XML:
-        return Adapted(bytes([DataType.NVARCHAR]) + MAX + COLLATION, _same)
+        return Adapted(bytes([DataType.NVARCHAR]) + MAX + COLLATION, cell)
     return Adapted(bytes([DataType.NVARCHAR]) + MAX + COLLATION, _variant(charset)) if type_.byte == DataType.VARIANT else None
 
 

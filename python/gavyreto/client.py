@@ -1,6 +1,7 @@
 """A server asked from Python: its answers as result sets."""
 from __future__ import annotations
 
+import contextlib
 import io
 import threading
 from typing import Any, Iterator, Optional, cast
@@ -17,7 +18,7 @@ from gavyreto.values import Dates, check_dates
 from gavyreto.where import PORT, SCHEME, where
 
 
-class Connection(Single):
+class Connection(Single, contextlib.AbstractContextManager["Connection"]):
     """A connection to a server, on which statements are asked one after the other, by one thread at a time. A context that closes it.
 
     A transaction has to end in the statement that begins it: a statement after one that leaves a transaction open is refused
@@ -28,9 +29,6 @@ class Connection(Single):
         self._answer: Optional[Answer] = None  # to the last statement
         self._program: Optional[Program] = None
         self._lock = threading.Lock()
-
-    def __enter__(self) -> Connection:
-        return self
 
     def __exit__(self, kind: object, *_: object) -> None:
         self._end(judges=not kind)
@@ -103,7 +101,7 @@ class Connection(Single):
                 pass
 
 
-class Cursor:
+class Cursor(contextlib.AbstractContextManager["Cursor"]):
     """A cursor of Python's DB-API (PEP 249) over the answer to one statement, set by set. A context that closes it."""
 
     def __init__(self, connection: Connection) -> None:
@@ -112,9 +110,6 @@ class Cursor:
         self.rowcount = -1  #: how many rows there are isn't known before they have come
         self._answer: Optional[Answer] = None
         self._set: Optional[ResultSet] = None
-
-    def __enter__(self) -> Cursor:
-        return self
 
     def __exit__(self, kind: object, *_: object) -> None:
         if self._answer:

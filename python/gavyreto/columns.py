@@ -118,20 +118,20 @@ def _old(byte: int, need: Need) -> Type:
     """Text, ntext or image: the length, of text the collation, and the name of the table in parts."""
     info = need(4 if byte == DataType.IMAGE else 9)
     parts = need(1)
-    return Type(byte, info + parts + b"".join(_counted_by_two(need) for _ in range(parts[0])), int.from_bytes(info[:4], "little"))
+    return Type(byte, info + parts + b"".join(_name(need, 2) for _ in range(parts[0])), int.from_bytes(info[:4], "little"))
 
 
 def _xml(need: Need) -> Type:
     """Whether there is a schema, and its names."""
     flag = need(1)
-    return Type(DataType.XML, flag + b"".join((_counted_by_one(need), _counted_by_one(need), _counted_by_two(need))) if flag[0] else flag)
+    return Type(DataType.XML, flag + b"".join((_name(need), _name(need), _name(need, 2))) if flag[0] else flag)
 
 
 def _clr(need: Need) -> Type:
     """The length, the names of database, schema and type, and that of the assembly."""
-    length, names = need(2), [_counted_by_one(need) for _ in range(3)]
+    length, names = need(2), [_name(need) for _ in range(3)]
     name = ".".join(it[1:].decode("utf-16-le", "replace") for it in names)
-    return Type(DataType.UDT, length + b"".join(names) + _counted_by_two(need), int.from_bytes(length, "little"), name=name)
+    return Type(DataType.UDT, length + b"".join(names) + _name(need, 2), int.from_bytes(length, "little"), name=name)
 
 
 def _counted(byte: int, info: bytes) -> Type:
@@ -142,14 +142,10 @@ def _counted(byte: int, info: bytes) -> Type:
     return Type(byte, info, info[0] if info else None)
 
 
-def _counted_by_one(need: Need) -> bytes:
-    count = need(1)
-    return count + need(2 * count[0])
-
-
-def _counted_by_two(need: Need) -> bytes:
-    count = need(2)
-    return count + need(2 * struct.unpack("<H", count)[0])
+def _name(need: Need, size: int = 1) -> bytes:
+    """A name behind the count of its units, which has so many bytes."""
+    count = need(size)
+    return count + need(2 * int.from_bytes(count, "little"))
 
 
 class Described(NamedTuple):
@@ -189,7 +185,7 @@ def read_description(need: Need) -> Optional[list[Described]]:
 def read_column(need: Need) -> Described:
     """Reads a column of a COLMETADATA."""
     user_type, flags = struct.unpack("<IH", need(6))
-    return Described(user_type, flags, read_type(need), _counted_by_one(need))
+    return Described(user_type, flags, read_type(need), _name(need))
 
 
 # Tables that have room for all values of a column, as `gavyreto.export` gives them.

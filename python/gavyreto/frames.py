@@ -47,11 +47,13 @@ class Gathered:
 
     def values(self) -> list[Value]:
         """The values again."""
-        return [None if value is _missing() or value != value else value for part in self._parts for value in part.tolist()]
+        import pandas  # type: ignore[import]
+
+        return [None if value is pandas.NA or value != value else value for part in self._parts for value in part.tolist()]
 
     def series(self) -> Any:
         import numpy
-        import pandas  # type: ignore[import]
+        import pandas
 
         if self._kind in KINDS.values() and self._kind != "string":
             return pandas.concat([pandas.Series(part) for part in self._parts], ignore_index=True) if self._parts else pandas.Series([], dtype=self._kind)
@@ -66,12 +68,6 @@ class Gathered:
         if self._types == {int} and self._greatest <= GREATEST:
             return "Int64"
         return "string" if self._types == {str} else "object"
-
-
-def _missing() -> Any:
-    import pandas
-
-    return pandas.NA
 
 
 def _whole_numbers(values: list[Value], kind: str) -> Any:

@@ -157,15 +157,11 @@ class Login(NamedTuple):
     packet_size: int
 
 
-def _units(text: str) -> bytes:
-    return text.encode("utf-16-le")
-
-
 def _checked_units(what: str, text: str) -> bytes:
     """The units of a text. Raises ValueError, which doesn't show the text, if it has half of a surrogate pair, as Python
     reads bytes that aren't UTF-8."""
     try:
-        return _units(text)
+        return text.encode("utf-16-le")
     except UnicodeEncodeError:
         raise ValueError(f"the {what} isn't UTF-8") from None
 

@@ -688,10 +688,7 @@ class Text(Sets):
 
     def __init__(self, path: Union[str, os.PathLike[str]], dates: Dates) -> None:
         self._file = open(path, "rb", buffering=0)
-        super().__init__(self._read, dates)
-
-    def _read(self, most: int) -> bytes:
-        return self._file.read(most) or b""
+        super().__init__(lambda most: self._file.read(most) or b"", dates)
 
     def _release(self) -> None:
         self._file.close()

@@ -411,7 +411,7 @@ class Connections(Live):
             self.assertGreater(len(own), 2)
             for frame in own:
                 self.assertNotIn("geheim", repr(frame.f_locals), frame.f_code.co_name)
-                self.assertNotIn(repr(tds._disguised(tds._units("geheim-83")))[2:-1], repr(frame.f_locals), frame.f_code.co_name)
+                self.assertNotIn(repr(tds._disguised("geheim-83".encode("utf-16-le")))[2:-1], repr(frame.f_locals), frame.f_code.co_name)
             self.assertIn("Connection refused", shown)
 
 

@@ -139,7 +139,8 @@ class Connections:
         if self._memory.is_past():
             self._memory.shorten()
         if segment.flags & (FIN | RESET) or not segment.data:
-            self._end_whole(key, conversation, segment)
+            if conversation.is_over() or segment.flags & RESET and conversation.is_idle():
+                self._end(key, conversation)  # all of it is there
 
     def _find(self, key: bytes, is_client: bool, segment: Segment, time: int) -> Optional[Conversation]:
         """The connection that a segment is of, which begins with it if it isn't there; None if it only comes again."""
@@ -228,11 +229,6 @@ class Connections:
         again.revisit.close()
 
     # Ends.
-
-    def _end_whole(self, key: bytes, conversation: Conversation, segment: Segment) -> None:
-        """Ends a connection of which all is there."""
-        if conversation.is_over() or segment.flags & RESET and conversation.is_idle():
-            self._end(key, conversation)
 
     def _end(self, key: bytes, conversation: Conversation, why: str = "") -> None:
         self._recent.pop(conversation, None)

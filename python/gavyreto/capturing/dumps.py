@@ -3,6 +3,7 @@ from __future__ import annotations
 
 import re
 from collections.abc import Iterable, Iterator
+from itertools import chain
 from typing import NamedTuple
 
 from gavyreto import tds
@@ -32,7 +33,7 @@ def dumped(lines: Iterable[bytes]) -> Iterator[Dumped]:
     """The packets of a dump (the file that TDSDUMP names): lines of hexadecimal after one that says where they went. Each packet is
     decrypted there. A client of DB-Library writes its statements there too, as they are: whoever makes them can write such lines."""
     data, is_received, begun = bytearray(), None, 0
-    for number, line in enumerate(lines, 1):
+    for number, line in enumerate(chain(lines, (b"",)), 1):
         found = DUMPED.match(line) if is_received is not None else None
         if found and int(found[1], 16) == len(data):
             data += bytes.fromhex(found[2].decode().replace("-", " "))
@@ -42,8 +43,6 @@ def dumped(lines: Iterable[bytes]) -> Iterator[Dumped]:
             data = bytearray()
         head = HEAD.match(line)
         is_received, begun = (head[1] == b"Received" if head else None), number
-    if data:
-        yield Dumped(bool(is_received), bytes(data), begun)
 
 
 class Mixed(Exception):

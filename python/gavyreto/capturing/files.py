@@ -7,13 +7,12 @@ import io
 import struct
 import zlib
 from collections.abc import Iterator
-from typing import IO, Callable, Literal, NamedTuple, cast
+from typing import IO, Callable, NamedTuple, cast
 
 GZIP = b"\x1F\x8B"
 PCAP = {  # by the first bytes: the order of bytes, and the units of time in a second
     b"\xD4\xC3\xB2\xA1": ("<", 10**6), b"\xA1\xB2\xC3\xD4": (">", 10**6), b"\x4D\x3C\xB2\xA1": ("<", 10**9), b"\xA1\xB2\x3C\x4D": (">", 10**9)}
 PCAPNG = b"\x0A\x0D\x0D\x0A"
-BYTES: dict[str, Literal["little", "big"]] = {"<": "little", ">": "big"}
 ORDERS = {b"\x4D\x3C\x2B\x1A": "<", b"\x1A\x2B\x3C\x4D": ">"}
 SECTION, INTERFACE, OLD_PACKET, SIMPLE_PACKET, STATISTICS, PACKET = 0x0A0D0D0A, 1, 2, 3, 5, 6  # types of blocks of pcapng
 RESOLUTION, OFFSET = 9, 14  # options of an interface: units of time in a second, seconds to add
@@ -194,7 +193,7 @@ def _pcapng(source: Source, drops: Drops) -> Iterator[Frame]:
                 _count_before(order, body, len(frame.data), drops)
             yield frame
         elif kind == STATISTICS and len(body) >= 12:
-            found = [int.from_bytes(value, BYTES[order]) for option, value in _options(order, body, 12) if option in DROPPED and len(value) == 8]
+            found = [struct.unpack(order + "Q", value)[0] for option, value in _options(order, body, 12) if option in DROPPED and len(value) == 8]
             drops.count(struct.unpack_from(order + "I", body)[0], sum(it for it in found if it != UNKNOWN))
 
 
@@ -204,7 +203,7 @@ def _count_before(order: str, body: bytes, captured: int, drops: Drops) -> None:
     if at < len(body):
         for option, value in _options(order, body, at):
             if option == DROPPED_BEFORE and len(value) == 8:
-                drops.add(struct.unpack_from(order + "I", body)[0], int.from_bytes(value, BYTES[order]))
+                drops.add(struct.unpack_from(order + "I", body)[0], struct.unpack(order + "Q", value)[0])
 
 
 def _options(order: str, body: bytes, at: int) -> Iterator[tuple[int, bytes]]:
