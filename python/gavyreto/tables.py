@@ -43,6 +43,8 @@ def items_of(lines: Iterable[str], file: str) -> list[Item]:
     twice."""
     found: dict[str, Item] = {}
     for number, text in enumerate(lines, 1):
+        if "\r" in text.rstrip():
+            raise Stopped(f"{file}, line {number}: a line end that is neither LF nor CR LF", REFUSED)
         name, rest = (text.split(None, 1) + ["", ""])[:2]
         if not name or name.startswith("--"):
             continue

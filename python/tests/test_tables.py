@@ -211,7 +211,8 @@ class Tables(unittest.TestCase):
         with server.listening() as port:
             for lines, line in (
                 (["a x", "b", "a y"], "tables, line 3: the name a stands twice"), (["a/b x"], "tables, line 1: the name a/b has a slash"), (["outcomes"], "is that of the table"),
-                (["x" * 250], "has more than"), (["", "--"], "no table"), (["a SELECT '" + "x" * 100_001 + "'"], "has a statement of more than"),
+                (["x" * 250], "has more than"), (["", "--"], "no table"), (["a\rb\rc"], "tables, line 1: a line end that is"), (["b", "-- c\ra SELECT 1"], "tables, line 2: a line end that is"),
+                (["a SELECT '" + "x" * 100_001 + "'"], "has a statement of more than"),
             ):
                 came = ask_port(port, "--tables", self.write(lines), "-o", self.out)
                 with self.subTest(line=line):
