@@ -1,6 +1,7 @@
 -- What an export answers of an accepted response: it succeeds, but for a device that fails.
 use Rattle.tds_export.proofs as N
-use N.{Fault, List, Ok, Packet, Run, Some, Token, WirePart, [], ap, arith, drop, grammar, inl, inr, more, refl, sym, ℕ, ◌++◌, ◌+◌, ◌==◌, ◌∙◌, ◌∷◌, ◌≡◌, ◌≤◌}
+use N.{Fault, List, Packet, Run, Some, Spelt, Token, [], ap, arith, inl, inr, length, more, wire, wire_of, ℕ, ◌++◌, ◌+◌}
+use N.{◌-◌, ◌==◌, ◌⊎◌, ◌∙◌, ◌∷◌, ◌≡◌, ◌≤◌}
 use N.Words.{Told}
 use N.ResponseLaws.{one_accepted, refused_response, response_is_read}
 
@@ -20,64 +21,74 @@ begins_added front {packets} N.BeforeHeader element h = N.choose (λ w. BeginsWi
 begins_added front (N.BeforeBody header) element h = begins_more _ _ h
 begins_added front N.AfterLast element h = h
 
--- whole packets at the front of an input, none of which is the last, begin the message there
-before_begins : (size limit : ℕ) (front packets : List Packet) (wires rest unread : List ℕ) → N.AreBefore size front → N.length (N.wire_of front) ≤ limit
-    → N.Message size limit packets wires → N.wire_of front ++ rest ≡ wires ++ unread → BeginsWith packets front
+-- what follows whole elements leads from where they lead
+pub rest_leads : {S : Type 0} {g : N.Grammar S N.Fault} {s t u : S} {a b : List ℕ} → Spelt g s a t → Spelt g s (a ++ b) u → Spelt g t b u
 unfolding Told
-before_begins size limit front packets wires rest unread each within m e =
-    let g = N.wire size limit in
-    let at = N.before_packet size limit front in
-    let t = rw (ap (λ p. N.feed_all g p rest) (sym (N.feed-Spelt g _ _ at (N.before_are_read _ _ _ _ each within)))
-    ∙ sym (N.feed_all-append g (N.Reading N.no_wire []) (N.wire_of front) rest)
-    ∙ ap (N.feed_all g (N.Reading N.no_wire [])) e ∙ N.read_to_end _ _ _ _ _ m) at (N.told g at rest) in
-    N.Spelt-induct g (λ w b. BeginsWith w.packets front) (grind (arith, begins_added)) at ([], N.append-nil front) t.0 (N.after_last size limit packets) t.2
+rest_leads h k = grind (arith, N.append-nil, N.feed-Spelt, N.feed_all, N.feed_all-append, N.told)
+
+-- what follows such bytes, up to the longest part
+pub further : {S : Type 0} (g : N.Grammar S N.Fault) (from to last : S) (bytes more : List ℕ) (place : ℕ) → Spelt g from bytes to
+    → N.Longest g from (bytes ++ more) place last → (rest : List ℕ) × Spelt g to rest last
+further g from to last bytes more place h l =
+    let least = l.longest (length bytes) to (grind (arith, N.length-append)) (rw (N.take-append_seam bytes more) h) in
+    let n = place - length bytes in
+    let sum : length bytes + n ≡ place = omega arith in
+    (N.take n more, rest_leads h (grind (arith, N.take-append-add)))
+
+-- whole packets at the front of an input begin those that are read of it at most
+pub front_begins : (size : ℕ) {limit : ℕ} {input : List ℕ} (rest : List ℕ) (packets : List Packet) {w : N.WirePart} {taken : ℕ}
+    → wire_of packets ++ rest ≡ input
+    → N.AreMessage size packets ⊎ N.AreBefore size packets → length (wire_of packets) ≤ limit → N.Longest (wire size limit) N.no_wire input taken w
+    → BeginsWith w.packets packets
+front_begins size {limit} rest packets {w} begin each within l =
+    let read : (place : N.WirePlace) × Spelt (wire size limit) N.no_wire (wire_of packets) (record { packets = packets; place = place }) =
+    grind (arith, N.message_is_read size limit [] packets, N.before_are_read size limit [] packets) in
+    N.Spelt-induct _ (λ v b. BeginsWith v.packets packets) (grind (arith, begins_added)) _ ([], N.append-nil packets) _ w
+    (further _ _ _ w _ _ _ read.1 (rw (← begin) at l)).1
+
+-- a message is what is read at most of an input that begins with it
+message_longest : {size limit : ℕ} {input wires : List ℕ} (unread : List ℕ) {packets : List Packet} → N.Message size limit packets wires
+    → input ≡ wires ++ unread → (taken : ℕ) × N.Longest (wire size limit) N.no_wire input taken (N.after_last size limit packets)
+unfolding Told
+message_longest {size} {limit} {input} unread {packets} m e =
+    let g = wire size limit in
+    let r = N.read_longest g N.no_wire input (N.Reading (N.after_last size limit packets) unread)
+    (N.subst (Told g N.no_wire input) (ap (N.feed_all g (N.Reading N.no_wire [])) e ∙ N.read_to_end _ _ _ _ _ m) (N.told g N.no_wire input)) in
+    (length r.0, r.2)
 
 -- the wire of a message has no fault
 no_wire_fault : {size limit : ℕ} {input wires : List ℕ} (unread : List ℕ) {packets read : List Packet} {fault : Fault} → N.Message size limit packets wires
     → input ≡ wires ++ unread → N.WireFault size limit input read fault → ⊥
-no_wire_fault {size} {limit} {input} unread {fault} m e f =
-    let g = N.wire size limit in
-    let same = (N.one_longest g _ _ _ _ _ _ f.longest (N.read_longest g _ _ _ (N.subst (Told g N.no_wire input) (ap (N.feed_all g (N.Reading N.no_wire [])) e
-    ∙ N.read_to_end _ _ _ _ _ m) (N.told g _ _))).2).1 in
+no_wire_fault {size} {limit} unread m e f =
+    let same = (N.one_longest (wire size limit) _ _ _ _ _ _ f.longest (message_longest _ m e).1).1 in
     grind arith
 
 -- ---- no stop of an accepted response is one of the input
 
-ended_accepted : (run : Run) (tokens : List Token) (payload : List ℕ) (place : ℕ) (part : N.Part) (fault : Fault)
-    → N.Response run.given.charset (N.limits run).column_room tokens payload → N.Longest (grammar run) N.response_start payload place part
-    → (grammar run).end_fault part ≡ Some fault → ⊥
-ended_accepted run tokens payload place part fault r l end =
-    let g = grammar run in
-    let same = (N.one_longest g _ _ _ _ _ _ l (N.subst (λ v. N.Longest g N.response_start v (N.length payload) (N.after_tokens tokens)) (N.append-nil payload)
-    (N.longest_cut g _ _ _ _ (response_is_read _ _ r) (omega arith)))).1 in
-    grind arith
-
-refused_accepted : (run : Run) {tokens : List Token} {payload : List ℕ} (more : List ℕ) {place : ℕ} {part : N.Part} {fault : Fault}
-    → N.Response run.given.charset (N.limits run).column_room tokens (payload ++ more) → N.Longest (grammar run) N.response_start payload place part
-    → N.IsRefused (grammar run) part (drop place payload) fault → ⊥
-refused_accepted run {payload} more {place} {part} r l refused =
-    let n = place + (grammar run).size part in
-    refused_response _ _ _ _ _ _ _ _ l refused (rw (ap (λ v. v ++ more) (sym (N.take-append-drop n payload))
-    ∙ N.append_assoc (N.take n payload) (drop n payload) more) at r)
-
 -- the packets read are those of the message, or begin it
 read_begin : {run : Run} {tokens : List Token} {read packets : List Packet} → N.Packets run read → (a : N.IsAccepted run tokens packets) → (more : List ℕ)
     × (N.payload_of packets ≡ N.payload_of read ++ more)
-read_begin {read} p a = elim p.each [
-  | inl h ↦ (let same = N.one_message _ _ _ _ _ _ _ _ (record { spelt = refl; each = h; within = p.within }) a.message (p.begin ∙ a.begins) in
-      (grind (arith, N.append-nil)))
-  | inr h ↦ (let b = before_begins _ _ _ _ _ _ _ h p.within a.message (p.begin ∙ a.begins) in
-      (grind (arith, N.flat_map-append)))
-]
+read_begin p a =
+    let begins = front_begins _ _ _ p.begin p.each p.within (message_longest _ a.message a.begins).1 in
+    grind (arith, N.flat_map-append)
 
 -- no run of an accepted response stops but by a device
 none_stops : (run : Run) (fault : Fault) (place : N.Place) → N.Stops run fault place → (tokens : List Token) (packets : List Packet)
     → N.IsAccepted run tokens packets → (N.FailsToRead run.given → ⊥) → (N.FailsToWrite run.given → ⊥) → ⊥
-none_stops run fault (N.Payload place) x tokens packets a reads writes = elim x.first [
-  | inl r ↦ (refused_accepted run _ (rw (read_begin x.stands a).1 at a.response) x.leads r.0)
-  | inr r ↦ (ended_accepted run tokens (N.payload_of x.packets) place x.part fault (rw (N.one_message _ _ _ _ _ _ _ _
-      (record { spelt = refl; each = r.0; within = x.stands.within }) a.message (x.stands.begin ∙ a.begins)) a.response) x.leads r.2)
-]
+none_stops run fault (N.Payload place) x tokens packets a reads writes =
+    let g = N.grammar run in
+    let payload = N.payload_of x.packets in
+    elim x.first [
+      | inl r ↦ (let more = read_begin x.stands a in
+          let n = place + g.size x.part in
+          refused_response _ _ _ _ _ _ _ _ x.leads r.0 (rw (more.1 ∙ ap (λ v. v ++ more.0) (N.sym (N.take-append-drop n payload))
+          ∙ N.append_assoc (N.take n payload) (N.drop n payload) more.0) at a.response))
+      | inr r ↦ (let all : N.Response run.given.charset (N.limits run).column_room tokens payload = rw (N.one_message _ _ _ _ _ _ _ _
+          (record { spelt = N.refl; each = r.0; within = x.stands.within }) a.message (x.stands.begin ∙ a.begins)) a.response in
+          let longest = N.longest_cut g _ _ [] _ (response_is_read _ _ all) (omega arith) in
+          let same = (N.one_longest g _ _ _ _ _ _ x.leads (rw N.append-nil at longest)).1 in
+          grind arith)
+    ]
 none_stops run fault (N.Wire taken) x tokens packets a reads writes = elim x.first [
   | inl r ↦ reads r.1.failed
   | inr r ↦ no_wire_fault _ a.message a.begins r
@@ -86,6 +97,6 @@ none_stops run fault (N.Text written) x tokens packets a reads writes = writes x
 
 -- an answer that is true of an accepted response is its report
 pub outcome_succeeds : {run : Run} (result : N.Result N.Report N.Stopped) → N.Outcome run result → N.SucceedsIfAccepted run result
-outcome_succeeds (Ok report) r = λ tokens packets accepted reads writes. let same = one_accepted _ _ _ _ _ _ _ _ _ accepted r.accepted in
+outcome_succeeds (N.Ok report) r = λ tokens packets accepted reads writes. let same = one_accepted _ _ _ _ _ _ _ _ _ accepted r.accepted in
     grind arith
 outcome_succeeds (N.Err stopped) r = λ tokens packets a reads writes. absurd (none_stops _ _ _ r.stop _ _ a reads writes)

@@ -1,21 +1,16 @@
 -- Tokens with a Length and a body, as they are read.
 use Rattle.tds_export.proofs as N
-use N.{AnError, List, Report, Some, Space, [], ap, arith, empty, first_error, in_length, length, notice_of, refl, sym, text, ℕ, ◌++◌, ◌+◌, ◌-◌, ◌<◌, ◌∙◌, ◌∷◌}
+use N.{AnError, List, Report, Some, Space, [], ap, arith, empty, first_error, in_length, length, notice_of, refl, text, ℕ, ◌++◌, ◌+◌, ◌-◌, ◌<◌, ◌∙◌, ◌∷◌}
 use N.{◌≡◌, ◌≤◌, Err, Kind, Ok, ReadsReturn, PayloadView, Stop, Takes, if◌then◌else◌, ◌*◌, Bodied, Token, between, false, inl, inr, is_notice, reads_one}
-use N.{response, true, Charset, View, Ends}
+use N.{response, true, Charset, Ends}
 use N.TokenSteps.{OpenTexts, bare_reads, quietly, stops_quietly, ReadsQuiet, StopsQuiet}
-use N.TokenLaws.{first_next, first_stays, no_errors, tracks_error, tracks_info, tracks_returned, bare_body, tracks_body}
+use N.TokenLaws.{first_next, first_stays, no_errors, tracked, tracks_error, bare_body, tracks_body}
 use N.ResponseLaws.{Agrees, info_is_read, return_name_is_read, value_agrees, read_inside, stop_inside, part_cut, fill_cut, return_agrees, body_free}
 use N.ResponseLaws.{body_is_read}
 
 -- a text as far as it fits stays within the room
 pub within_room : {s : Space} (text : List ℕ) → s.bytes ≡ [] → s.peak ≤ s.room → (N.appended s (N.whole_within (s.room - length s.bytes) text)).peak ≤ s.room
 within_room = grind (arith, N.length-append, N.length-take, N.utf8_valid_len_le)
-
--- before or after the Length no text is added, and the area holds what it held
-in_body_holds : {area : Space} {tokens : List Token} {which : Bodied} (at : N.Part) → N.IsHolding area (N.after_tokens tokens) → N.IsInBody tokens which at
-    → (N.text_so_far (in_length which tokens) ≡ N.text_so_far at) × N.IsHolding area at
-in_body_holds = grind arith
 
 -- ---- RETURNVALUE as it is read, and in its response
 
@@ -45,7 +40,7 @@ module _ {a : PayloadView} (b : PayloadView) {place one : ℕ} (ordinal : List �
     -- the ordinal and the count of the name's units were read
     pub front_read : {c : PayloadView} {two : ℕ} (element : List ℕ) → length element ≡ 1 → Takes b c element (length element) → two ≡ one + length element
         → ReadsReturn N.ReturnOrdinal (N.with_return_units (N.slice_index element 0)) a c place two
-    front_read element single second at' = return_reads_after ordinal_read (return_read _ (omega arith) (sym single) refl refl refl second at')
+    front_read element single second at' = return_reads_after ordinal_read (return_read _ (omega arith) (N.sym single) refl refl refl second at')
 
 -- the name is cut
 pub name_cut : (units : ℕ) {n place : ℕ} {a b : PayloadView} {own stop : Stop} {part : List ℕ} → n ≡ 2 * units → length part < n → Ends a b part own
@@ -71,17 +66,14 @@ after_name name (N.TypeRest byte) = N.ReturnInfo name byte
 after_name name (N.KnownType kind) = N.before_value name kind
 after_name name N.NoType = N.ReturnOrdinal
 
--- a kind that is known, and a type byte that was read, lead to the same
-known_kind : (name : List ℕ) (o : N.Option Kind) → N.with_return_kind name o ≡ after_name name (N.with_known o)
-known_kind = grind arith
-
+-- a type byte that was read leads to the same
 byte_read : (name : List ℕ) (byte : ℕ) (z : N.Bool) → (if z then N.with_return_kind name (N.kind_of (byte ∷ [])) else N.ReturnInfo name byte) ≡ after_name name
     (if z then N.with_known (N.kind_of (byte ∷ [])) else N.TypeRest byte)
 byte_read = grind arith
 
 -- a type is read in its return value as by itself
 type_agrees : {name : List ℕ} (p : N.TypePart) → 0 < N.returned_type.size p → Agrees N.returned_type N.Words.return_value (after_name name) p
-type_agrees p h = grind (arith, byte_read, known_kind)
+type_agrees p h = grind (arith, byte_read)
 
 -- whatever the answer is
 pub type_taken : (r : N.Result Kind Stop) (name head : List ℕ) (a b c : PayloadView) (place : ℕ) {middle : ℕ} (place' : ℕ) → length head ≡ 8 → Takes a b head 8
@@ -112,13 +104,6 @@ value_passed (Ok u) name kind {b} c place' x y =
     }
 value_passed (Err stop) name kind {b} c place' x y =
     return_stops_after x (record { at = N.with_value name kind y.at; stops = stop_inside (value_agrees _ _) y.stops })
-
--- ---- in its response
-
--- a part of it has no text, and the area holds what it held
-open_return : {area : Space} {tokens : List Token} (p : N.ReturnPart) → 0 < N.return_size p → N.IsHolding area (N.after_tokens tokens)
-    → (N.text_so_far (N.in_return tokens) ≡ N.text_so_far (N.with_return tokens p)) × N.IsHolding area (N.with_return tokens p)
-open_return = grind arith
 
 -- ---- tokens with a Length and a body, as they are read
 
@@ -198,20 +183,20 @@ module _ (charset : Charset) (room : ℕ) {tokens : List Token} {which : Bodied}
         -- the body was read into an area
         pub body_taken : {place' : ℕ} → place' ≡ middle + n → N.holds_notice t.element ≡ true
             → N.ReadsNotice charset room tokens which a c place place' t.element
-        body_taken at holds = body_passed long t.element t.whole t.takes at holds
+        body_taken = grind (arith, body_passed)
 
 -- ---- what a run makes of them
 
-module _ (charset : Charset) {tokens : List Token} {s : N.Progress} {u : View} {b : PayloadView} (begun : OpenTexts tokens s u) where
+module _ (charset : Charset) {tokens : List Token} {s : N.Progress} {u : N.View} {b : PayloadView} (begun : OpenTexts tokens s u) where
   -- a notice is cut or refused
   pub notice_stops : {which : Bodied} {stop : Stop} → N.StopsInNotice charset u.area.room tokens which u.seen b u.place stop
       → StopsQuiet charset (in_length which tokens) u b stop
-  notice_stops x = let there = in_body_holds _ begun.holds x.in_body in grind (arith, stops_quietly)
+  notice_stops x = stops_quietly (grind (arith, x.in_body)) (grind (arith, x.in_body)) begun.delivered begun.going x.stops
 
   -- an INFO was read
   pub info_reads : {place : ℕ} {body : List ℕ} → N.ReadsNotice charset u.area.room tokens N.AnInfo u.seen b u.place place body
       → ReadsQuiet charset (in_length N.AnInfo tokens) tokens u b place (record s { report = record s.report { infos = s.report.infos + 1 } })
-  info_reads x = quietly begun refl (bare_reads begun _ x.reads x.place_is refl refl (tracks_info begun.tracks _))
+  info_reads x = quietly begun refl (bare_reads begun _ x.reads x.place_is refl refl (grind (arith, tracked)))
 
   module _ {place : ℕ} {body : List ℕ} (x : N.ReadsNotice charset u.area.room tokens AnError u.seen b u.place place body) where
     abbrev error_reads : {first : N.Option N.ServerError} → first ≡ N.option_map N.server_error (first_error (tokens ++ N.Error (notice_of body) ∷ []))
@@ -235,15 +220,13 @@ module _ (charset : Charset) {tokens : List Token} {s : N.Progress} {u : View} {
 
   -- a return value stopped the call
   pub return_stops : {stop : Stop} → N.StopsReturn N.ReturnOrdinal u.seen b u.place stop → StopsQuiet charset (N.in_return tokens) u b stop
-  return_stops x =
-      let there = open_return _ (grind arith) begun.holds in
-      stops_quietly there.0 there.1 begun.delivered begun.going (stop_inside (return_agrees _ _ _) x.stops)
+  return_stops x = stops_quietly (grind arith) (grind arith) begun.delivered begun.going (stop_inside (return_agrees _ _ _) x.stops)
 
   -- a return value was read
   pub return_reads : {place : ℕ} → N.ReadsValue u.seen b u.place place
       → ReadsQuiet charset (N.in_return tokens) tokens u b place (record s { report = record s.report { return_values = s.report.return_values + 1 } })
   return_reads x =
-      quietly begun refl (bare_reads begun _ (read_inside (return_agrees _ _ _) x.steps.reads) x.steps.place_is refl refl (tracks_returned begun.tracks _))
+      quietly begun refl (bare_reads begun _ (read_inside (return_agrees _ _ _) x.steps.reads) x.steps.place_is refl refl (grind (arith, tracked)))
 
   module _ {n middle : ℕ} {which : Bodied} {element : List ℕ} {c : PayloadView} (quiet : is_notice which ≡ false)
       (l : LengthRead element n u.seen b u.place middle) where

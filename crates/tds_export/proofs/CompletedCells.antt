@@ -1,7 +1,7 @@
 -- What completes a cell and a row is read as their rest.
 use Rattle.tds_export.proofs as N
-use N.{Bool, Cell, CellPart, ChunkData, ChunkLength, Column, Conversion, Decimal, Kind, List, None, Null, Ok, Option, Result, ShortData, Some, Spelt, Time}
-use N.{WholeCell, WholeRow, Windows1252, [], ap, arith, before, begun, bit, cell, choose, false, is_valid, le_true, length, marked, nat_le, refl, row, suc, sym}
+use N.{Bool, Cell, CellPart, ChunkData, ChunkLength, Column, Conversion, Decimal, Kind, List, None, Null, Option, Result, ShortData, Some, Spelt, Time}
+use N.{WholeCell, WholeRow, Windows1252, [], arith, before, bit, cell, choose, false, is_valid, le_true, length, marked, refl, row, suc, sym}
 use N.{true, unit, zero, zeros, ℕ, ⊤, ◌%◌, ◌&&◌, ◌++◌, ◌+◌, ◌<◌, ◌∙◌, ◌∷◌, ◌≡◌, ◌≤◌}
 use N.ResponseLaws.{spelt_both, spelt_one}
 use N.SomeBytes.{exactly, little_below, one_of_four}
@@ -33,7 +33,7 @@ below_eight = grind arith
 
 -- a value was read
 abbrev IsRead : Result N.ScalarValue N.ValueFault → Type 0
-IsRead r = (v : N.ScalarValue) × (r ≡ Ok v)
+IsRead r = (v : N.ScalarValue) × (r ≡ N.Ok v)
 
 value_there : (r : Result N.ScalarValue N.ValueFault) → N.is_ok r ≡ true → IsRead r
 value_there r h = grind arith
@@ -47,22 +47,12 @@ abbrev ZerosAre : Kind → ℕ → Type 0
 ZerosAre kind n = are_read kind n ≡ true
 
 zeros_are_a_value : (kind : Kind) (n : ℕ) → is_valid kind ≡ true → N.is_scalar kind ≡ true → N.is_length_allowed kind n ≡ true → ZerosAre kind n
-zeros_are_a_value (N.IntN d) n v s h = grind (arith, exactly, one_of_four)
-zeros_are_a_value N.BitN n v s h = grind (arith, exactly)
-zeros_are_a_value (N.MoneyN d) n v s h = grind (arith, exactly)
-zeros_are_a_value (N.DateTimeN d) n v s h = grind (arith, exactly)
-zeros_are_a_value N.Guid n v s h = grind (arith, exactly)
-zeros_are_a_value (Decimal d p sc) n v s h = grind arith
-zeros_are_a_value N.Date n v s h = grind (arith, exactly)
 zeros_are_a_value (Time sc) n v s h = exactly (ZerosAre (Time sc)) n _ h (below_eight (λ sc. are_read (Time sc) (N.time_length sc)) refl _ (le_true _ 7 v))
 zeros_are_a_value (N.DateTime2 sc) n v s h =
     exactly (ZerosAre (N.DateTime2 sc)) n _ h (below_eight (λ sc. are_read (N.DateTime2 sc) (N.time_length sc + 3)) refl _ (le_true _ 7 v))
 zeros_are_a_value (N.DateTimeOffset sc) n v s h =
     exactly (ZerosAre (N.DateTimeOffset sc)) n _ h (below_eight (λ sc. are_read (N.DateTimeOffset sc) (N.time_length sc + 5)) refl _ (le_true _ 7 v))
-zeros_are_a_value (N.Binary r) n v s h = cc
-zeros_are_a_value (N.Narrow r) n v s h = cc
-zeros_are_a_value (N.Wide r) n v s h = cc
-zeros_are_a_value kind n v s h = grind (arith, exactly)
+zeros_are_a_value kind n v s h = grind (arith, exactly, one_of_four)
 
 zeros_next : (n : ℕ) → 0 ∷ zeros (n + 1) ≡ zeros (suc n + 1)
 zeros_next = grind arith
@@ -127,17 +117,14 @@ module _ (column : ℕ) where
   cell_ends (N.Total c) h = (Null, spelt_one (omega arith) refl refl refl)
   cell_ends (ChunkLength c total content) (plain, h) = length_ends _ plain h
   cell_ends (ChunkData c total left content) (plain, h) =
-      let l = N.length-append content (zeros (left + 1)) ∙ ap (λ v. length content + v) (N.length-replicate (left + 1) 0) in
+      let l = N.length-append content (zeros (left + 1)) ∙ N.ap (λ v. length content + v) (N.length-replicate (left + 1) 0) in
       let more = length_ends _ plain (rw (← l) at h) in
       (more.0, spelt_both (chunk_ends _ plain) (rw (← l) more.1))
   cell_ends (WholeCell x) h = (x, N.Spelt-none _ _)
 
-  value_reached : (r : Result N.ScalarValue N.ValueFault) → CellReached (N.value_part r)
-  value_reached r = grind arith
-
   -- Each element keeps what is known.
   pub cell_keeps : (p : CellPart) {e : List ℕ} → N.AreBytes e → CellReached p → N.IsNext (cell column) p e → CellReached (N.cell_add p e)
-  cell_keeps (N.ScalarBytes kind m) are h n = value_reached _
+  cell_keeps (N.ScalarBytes kind m) are h n = grind arith
   cell_keeps (N.ScalarLength kind) are (valid, scalar) n = grind arith
   cell_keeps (N.ShortLength c) are plain n = grind arith
   cell_keeps (ShortData c left content) are (plain, even) n = grind (arith, choose, N.eq_false, N.length-append)
@@ -176,10 +163,6 @@ next_reached cells [] h = tt
 next_reached cells ((k, true) ∷ ks) (v, h) = next_reached _ ks h
 next_reached cells ((k, false) ∷ ks) (v, h) = grind arith
 
--- Each element keeps what is known.
-pub row_keeps : {p : N.RowPart} {e : List ℕ} → N.AreBytes e → RowReached p → N.IsNext (row Windows1252) p e → RowReached (N.row_add Windows1252 p e)
-row_keeps = grind (arith, cell_keeps, marked_valid, next_reached)
-
 -- the rest of a row, up to its end
 abbrev Ends : N.RowPart → List ℕ → Type 0
 Ends p rest = (cells : List Cell) × Spelt (row Windows1252) p rest (WholeRow cells)
@@ -204,10 +187,6 @@ zero_at zero i = refl
 zero_at (suc n) zero = refl
 zero_at (suc n) (suc i) = zero_at n i
 
--- no bit of zero bytes is set
-clear_at : (n k : ℕ) → bit (zeros n) k ≡ false
-clear_at n k = grind (arith, zero_at)
-
 marked_clear : (columns : List Column) (nulls : ℕ → Bool) (k : ℕ) → ((i : ℕ) → nulls i ≡ false) → marked columns nulls k ≡ N.all_clear columns
 marked_clear [] nulls k h = refl
 marked_clear (c ∷ cs) nulls k h = λ i. (c, h k i) ∷ marked_clear cs _ (k + 1) h i
@@ -219,9 +198,10 @@ row_ends (N.Bitmap columns) (some, h) =
     let l = N.length-replicate n 0 in
     let one : Spelt (row Windows1252) (N.Bitmap columns) (zeros n) (N.next_cell Windows1252 [] (marked columns (bit (zeros n)) 0)) =
     spelt_one (omega (arith, l)) l refl refl in
-    let clear = marked_clear _ _ 0 (clear_at n) in
+    let clear = marked_clear columns (bit (zeros n)) 0 (λ k. grind (arith, zero_at)) in
     let more = cells_end _ _ (N.subst AreMarkedValid clear (marked_valid _ _ 0 h)) in
     (more.0, spelt_both (rw clear at one) more.1)
 row_ends (N.InCell cells part ks) (begun, h, m) =
-    N.subst (λ p. Ends p (N.rest_of_cell part ++ N.rest_of_cells ks)) (grind arith) (part_ends cells part ks h (λ b. cells_end b _ m))
+    let all = part_ends cells part ks h (λ b. cells_end b _ m) in
+    grind arith
 row_ends (WholeRow cells) h = (cells, N.Spelt-none _ _)

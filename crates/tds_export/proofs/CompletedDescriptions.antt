@@ -1,6 +1,6 @@
 -- What completes a description is read as its rest.
 use Rattle.tds_export.proofs as N
-use N.{Column, ColumnHead, InColumn, List, None, [], ap, arith, if◌then◌else◌, int_columns, length, more, refl, suc, true, zero, zeros, ℕ, ◌*◌, ◌++◌, ◌+◌, ◌-◌}
+use N.{Column, ColumnHead, InColumn, List, None, [], arith, if◌then◌else◌, int_columns, length, more, refl, suc, true, zero, zeros, ℕ, ◌*◌, ◌++◌, ◌+◌, ◌-◌}
 use N.{◌<◌, ◌==◌, ◌∙◌, ◌∷◌, ◌≡◌, ◌≤◌, ⊤}
 use N.Words.{named_kind, rest_length}
 use N.CompletedCells.{AreValid}
@@ -110,14 +110,13 @@ module _ (room : ℕ) where
   info_ends bytes count cols byte n is fewer (m, known, some, fits) =
       let least = least_type known in
       then_ends {e = N.least_info byte} (spelt_one (omega arith) (cc) (grind arith)
-      (ap (λ o. N.with_kind (bytes ++ N.least_info byte) count cols o) least.described))
+      (N.ap (λ o. N.with_kind (bytes ++ N.least_info byte) count cols o) least.described))
       (grind (arith, count_ends, N.length-append))
 
   -- A part of a description that isn't all of it, followed by what completes it, is a whole one.
   pub described_ends : 10 ≤ room → (d : N.DescriptionPart) → IsOpenDescription d → DescribedReached room d → Ends room d (N.rest_of_description d)
   described_ends ten N.BeforeCount o h =
-      let one : N.Spelt (N.description room) N.BeforeCount (1 ∷ 0 ∷ []) (InColumn (1 ∷ 0 ∷ []) 1 [] ColumnHead) = grind (arith, spelt_one, N.fits_in) in
-      then_ends one (ints_end _ 1 _ 0 refl (omega arith))
+      then_ends {e = 1 ∷ 0 ∷ []} (grind (arith, spelt_one, N.fits_in)) (ints_end (1 ∷ 0 ∷ []) 1 [] 0 refl (omega arith))
   described_ends ten (InColumn bytes count cols ColumnHead) o (fewer, valid, fits) = grind (arith, ints_end)
   described_ends ten (InColumn bytes count cols (N.ColumnInfo byte)) o (fewer, valid, fits) = rw N.append_assoc (info_ends _ _ _ _ _ refl fewer fits)
   described_ends ten (InColumn bytes count cols (N.NameCount kind)) o (fewer, valid, (v, fits)) = count_ends _ _ _ _ _ refl fewer fits

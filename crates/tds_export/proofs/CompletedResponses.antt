@@ -1,11 +1,11 @@
 -- What completes a response is read as its rest, and is bytes.
 use Rattle.tds_export.proofs as N
-use N.{AreBytes, Column, Done, InRow, List, None, Open, Option, Part, Spelt, Token, Windows1252, [], arith, begun, described_after, false, length, passed, refl}
+use N.{AreBytes, Column, Done, InRow, List, None, Open, Part, Spelt, Token, Windows1252, [], arith, begun, described_after, false, length, passed, refl}
 use N.{response, suc, true, zero, zeros, ℕ, ⊤, ◌++◌, ◌<◌, ◌∙◌, ◌∷◌, ◌≡◌, ◌≤◌}
 use N.SomeBytes.{AreBytes-append, AreBytes-replicate, bytes_induct}
 use N.CompletedDescriptions.{DescribedReached, IsOpenDescription, described_ends, described_keeps}
 use N.CompletedReturns.{ReturnReached, return_ends, return_keeps}
-use N.CompletedCells.{RowReached, AreValid, marked_valid, next_reached, row_ends, row_keeps}
+use N.CompletedCells.{RowReached, AreValid, cell_keeps, marked_valid, next_reached, row_ends}
 use N.LeastTypes.{least_type}
 use N.ResponseMeaning.{response_is_spelt}
 use N.ResponseLaws.{spelt_both, spelt_one, body_free, body_is_read, described_after-append, description_agrees, row_agrees}
@@ -64,7 +64,7 @@ AreBytes-return (N.InReturnCell name kind part) h = AreBytes-cell part
 AreBytes-return (N.WholeReturn r) h = tt
 
 -- the columns that are described are some, of valid kinds
-abbrev CurrentReached : Option (List Column) → Type 0
+abbrev CurrentReached : N.Option (List Column) → Type 0
 CurrentReached None = ⊤
 CurrentReached (N.Some columns) = (0 < length columns) × AreValid columns
 
@@ -80,24 +80,12 @@ module _ (room : ℕ) where
   bare_reached : (tokens : List Token) (t : Token) → is_bare t ≡ true → CurrentReached (described_after None tokens) → PartReached room (N.with_token tokens t)
   bare_reached = grind (arith, described_after-append, bare)
 
-  return_reached : (tokens : List Token) (part : N.ReturnPart) → CurrentReached (described_after None tokens) → ReturnReached part
-      → PartReached room (N.with_return tokens part)
-  return_reached = grind (arith, bare_reached)
-
-  lead_reached : (tokens : List Token) (begun : Option N.Lead) → CurrentReached (described_after None tokens)
-      → PartReached room (N.after_first Windows1252 tokens begun)
-  lead_reached = grind (arith, marked_valid, next_reached, described_after-append)
-
   -- Each element keeps what is known.
   open_keeps : {tokens : List Token} (at : Open) {e : List ℕ} → AreBytes e → CurrentReached (described_after None tokens) → OpenReached room at
       → N.IsNext (response Windows1252 room) (part_at tokens at) e → PartReached room (N.part_add Windows1252 tokens at e)
-  open_keeps {tokens} N.Between are h o n = lead_reached tokens _ h
-  open_keeps (N.Describing d) {e} are h (begun, r) n = grind (arith, described_after-append, described_keeps)
-  open_keeps (InRow part) {e} are h (begun, r) n = grind (arith, described_after-append, row_keeps)
-  open_keeps (N.InReturn part) {e} are h (begun, r) n = grind (arith, return_reached, return_keeps)
   open_keeps (N.TokenLength b) are h o n = grind (arith, bare_body, bare_reached, N.choose, N.eq_false, N.nat_tests)
-  open_keeps {tokens} (N.TokenBody b m) {e} are h o n = bare_reached tokens _ (bare_body b e) h
-  open_keeps {tokens} (N.Fields f) {e} are h o n = bare_reached tokens _ (bare_fixed f e) h
+  open_keeps at are h o n =
+      grind (arith, marked_valid, next_reached, described_after-append, described_keeps, cell_keeps, bare_reached, return_keeps, bare_body, bare_fixed)
 
   part_reached : {bytes : List ℕ} {p : Part} → AreBytes bytes → Spelt (response Windows1252 room) N.response_start bytes p → PartReached room p
   part_reached {p} are h = bytes_induct (λ q b. PartReached room q) (grind (arith, open_keeps)) _ (tt, tt) _ p are h
@@ -111,25 +99,16 @@ module _ (room : ℕ) where
   token_ends ten tokens N.Between o = (tokens, N.Spelt-none _ _)
   token_ends ten tokens (N.Describing d) (begun, r) =
       let all = described_ends _ ten d begun r in
-      let to = tokens ++ N.Metadata all.0 all.1 ∷ [] in (
-        to,
-        N.subst (λ p. Spelt (response Windows1252 room) p (N.rest_of_description d) (N.after_tokens to)) (grind arith)
-            (spelt_inside (description_agrees Windows1252 _ tokens) all.2),
-      )
+      let read = spelt_inside (description_agrees Windows1252 room tokens) all.2 in
+      (tokens ++ N.Metadata all.0 all.1 ∷ [], grind arith)
   token_ends ten tokens (InRow part) (begun, r) =
       let all = row_ends _ r in
-      let to = tokens ++ N.Row all.0 ∷ [] in (
-        to,
-        N.subst (λ p. Spelt (response Windows1252 room) p (N.rest_of_row part) (N.after_tokens to)) (grind arith)
-            (spelt_inside (row_agrees Windows1252 _ tokens) all.1),
-      )
+      let read = spelt_inside (row_agrees Windows1252 room tokens) all.1 in
+      (tokens ++ N.Row all.0 ∷ [], grind arith)
   token_ends ten tokens (N.InReturn part) (begun, r) =
       let all = return_ends _ r in
-      let to = tokens ++ N.Returned all.0 ∷ [] in (
-        to,
-        N.subst (λ p. Spelt (response Windows1252 room) p (N.rest_of_return part) (N.after_tokens to)) (grind arith)
-            (spelt_inside (return_agrees Windows1252 _ tokens) all.1),
-      )
+      let read = spelt_inside (return_agrees Windows1252 room tokens) all.1 in
+      (tokens ++ N.Returned all.0 ∷ [], grind arith)
   token_ends ten tokens (N.TokenLength (N.APassed passed)) o =
       (tokens ++ N.PassedOver passed [] ∷ [], body_is_read Windows1252 _ (zeros 2) _ refl refl refl refl)
   token_ends ten tokens (N.TokenLength b) o = (

@@ -1,6 +1,6 @@
 -- Where an export stops with the fault of a device, the device's count of failures rose.
 use Rattle.tds_export.proofs as N
-use N.{Coming, Fault, List, Option, Part, ReadFailed, Some, Stop, [], ap, arith, before, if◌then◌else◌, inl, inr, read, subst, sym, ℕ, ⊤, ◌++◌, ◌<◌, ◌∙◌, ◌∷◌}
+use N.{Coming, Fault, List, Option, ReadFailed, Stop, [], ap, arith, before, if◌then◌else◌, inl, inr, read, subst, sym, ℕ, ⊤, ◌++◌, ◌<◌, ◌∙◌, ◌∷◌}
 use N.{◌≡◌, ◌⊎◌}
 use N.Words.{front_packet, message}
 
@@ -13,17 +13,13 @@ IsOfPayload fault = ⊤
 -- no fault, or one of these
 abbrev AtMostOfPayload : Option Fault → Type 0
 AtMostOfPayload N.None = ⊤
-AtMostOfPayload (Some fault) = IsOfPayload fault
+AtMostOfPayload (N.Some fault) = IsOfPayload fault
 
 if_payload : (b : N.Bool) (x y : Option Fault) → AtMostOfPayload x → AtMostOfPayload y → AtMostOfPayload (if b then x else y)
 if_payload = grind arith
 
 part_payload : (room : ℕ) (tokens : List N.Token) (at : N.Open) (e : List ℕ) → AtMostOfPayload (N.part_fault room tokens at e)
 part_payload room tokens at e = grind (arith, if_payload)
-
-module _ (charset : N.Charset) (room : ℕ) where
-  end_fault : (p : Part) (fault : Fault) → (N.response charset room).end_fault p ≡ Some fault → IsOfPayload fault
-  end_fault = grind arith
 
 -- ---- a payload that has just begun
 
@@ -41,12 +37,12 @@ ReadingFault before after fault = ((fault ≡ N.WriteFailed) → ⊥) × ((fault
 of_none : (P : Fault → Type 0) → (P N.WriteFailed → ⊥) → (P ReadFailed → ⊥) → (before after : ℕ) (fault : Fault) → P fault → ReadingFault before after fault
 of_none = grind arith
 
-reading_fault : (charset : N.Charset) (room size limit : ℕ) {failures : ℕ} {left : Option (List ℕ)} {b : N.PayloadView} {place : ℕ} (at : Part) (stop : Stop)
+reading_fault : (charset : N.Charset) (room size limit : ℕ) {failures : ℕ} {left : Option (List ℕ)} {b : N.PayloadView} {place : ℕ} (at : N.Part) (stop : Stop)
     → N.StopsReading (N.response charset room) N.response_start (N.begun size limit left failures) b place at stop → ReadingFault failures b.failures stop.fault
 reading_fault charset room size limit {b} at stop x = elim x.cause [
   | inl y ↦ of_none IsOfPayload (λ h. h) (λ h. h) _ _ _ (grind (arith, part_payload))
   | inr y ↦ elim y.stop_is [
-    | inl z ↦ grind (arith, of_none, end_fault)
+    | inl z ↦ grind (arith, of_none)
     | inr z ↦ rw (ap (λ (s : Stop). s.fault) z.1) (elim (ends_of_wire _ _ _ b y.ends) [
       | inl w ↦ grind (arith, of_none)
       | inr w ↦ grind arith

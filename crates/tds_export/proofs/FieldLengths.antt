@@ -1,6 +1,6 @@
 -- How long the text of so many bytes is at most.
 use Rattle.tds_export.proofs as N
-use N.{Conversion, HexDigits, List, Ok, [], arith, choose, emit, length, true, ℕ, ◌*◌, ◌++◌, ◌+◌, ◌-◌, ◌<◌, ◌==◌, ◌^◌, ◌∷◌, ◌≡◌, ◌≤◌, ⊤}
+use N.{Conversion, HexDigits, List, [], arith, choose, emit, length, true, ℕ, ◌*◌, ◌++◌, ◌+◌, ◌-◌, ◌<◌, ◌==◌, ◌^◌, ◌∷◌, ◌≡◌, ◌≤◌, ⊤}
 use N.Words.{utf16_chars}
 use N.SomeBytes.{byte_below, little_below, one_of_four}
 use Rattle.tds_text.specs.Utf16 as utf16
@@ -27,13 +27,9 @@ chars_length (u ∷ []) = omega arith
 chars_length (u ∷ v ∷ us) = grind (arith, choose, (chars_length (v ∷ us)), (chars_length us))
 
 -- a byte is doubled at most
-byte_doubled : (b : ℕ) → length (N.doubled_byte b) ≤ 2
-byte_doubled = grind arith
-
--- so are all bytes
 doubled_most : (bytes : List ℕ) → length (N.doubled bytes) ≤ 2 * length bytes
 doubled_most [] = omega arith
-doubled_most (b ∷ bytes) = omega (arith, byte_doubled b, doubled_most bytes, N.length-append (N.doubled_byte b) (N.doubled bytes))
+doubled_most (b ∷ bytes) = grind (arith, N.length-append, (doubled_most bytes))
 
 -- four bytes for each byte
 conversion_length : (c : Conversion) (bytes : List ℕ) → length (N.conversion_text c bytes) ≤ 4 * length bytes
@@ -108,18 +104,12 @@ values_fit kinds.Int2 e h k = integer_fits 2 e h
 values_fit kinds.Int4 e h k = integer_fits 4 e h
 values_fit kinds.Int8 e h k = integer_fits 8 e h
 values_fit (kinds.IntN n) e h k = integer_fits n e h
-values_fit kinds.Money4 e h k = money_fits 4 e
-values_fit kinds.Money8 e h k = money_fits 8 e
-values_fit (kinds.MoneyN n) e h k = money_fits n e
-values_fit kinds.DateTime4 e h k = datetime_fits 4 e
-values_fit kinds.DateTime8 e h k = datetime_fits 8 e
-values_fit (kinds.DateTimeN n) e h k = datetime_fits n e
 values_fit (kinds.Decimal n precision scale) e h k = grind (arith, little_below, one_of_four, N.and_parts)
-values_fit kind e h k = tt
+values_fit kind e h k = grind (arith, money_fits, datetime_fits)
 
 -- the text of a value that is read
 abbrev pub ReadShort : N.Result N.ScalarValue N.ValueFault → Type 0
-ReadShort (Ok v) = length (N.text_of v) ≤ 41
+ReadShort (N.Ok v) = length (N.text_of v) ≤ 41
 ReadShort (N.Err f) = ⊤
 
 -- a value in its range has a short text

@@ -1,6 +1,6 @@
 -- The least TYPE_INFO of each type byte.
 use Rattle.tds_export.proofs as N
-use N.{Bool, Kind, List, None, Option, Some, [], arith, false, least_info, refl, suc, true, zero, ℕ, ◌&&◌, ◌<◌, ◌==◌, ◌∷◌, ◌≡◌}
+use N.{Bool, Kind, List, None, Option, Some, [], arith, least_info, refl, suc, true, zero, ℕ, ◌&&◌, ◌<◌, ◌==◌, ◌∷◌, ◌≡◌}
 use N.Words.{named_kind, rest_length}
 
 -- after this type byte the least rest is of so many bytes, and describes a kind
@@ -17,12 +17,12 @@ are_bytes (x ∷ xs) = N.nat_lt x 256 && are_bytes xs
 
 bytes_true : (xs : List ℕ) → are_bytes xs ≡ true → N.AreBytes xs
 bytes_true [] h = tt
-bytes_true (x ∷ xs) h = let both = N.and_parts (N.nat_lt x 256) (are_bytes xs) h in (N.lt_true x _ both.0, bytes_true xs both.1)
+bytes_true (x ∷ xs) h = grind (arith, N.and_parts, N.lt_true, (bytes_true xs))
 
 -- whether a rest of this length, if there is one, has it, is of bytes, and describes a kind
 abbrev holds : Option ℕ → List ℕ → Option Kind → Bool
 holds None rest kind = true
-holds (Some n) rest None = false
+holds (Some n) rest None = N.false
 holds (Some n) rest (Some kind) = N.length rest == n && are_bytes rest
 
 -- whether the least rest is one, where the type byte is accepted
@@ -39,10 +39,7 @@ unfolding all_below
 one_below zero p h k l = grind arith
 one_below (suc n) p h k l =
     let both = N.and_parts (p n) (all_below n p) h in
-    elim (k == n) as (λ t. (k == n) ≡ t → p k ≡ true) [
-      | true ↦ grind (arith, N.eq_true)
-      | false ↦ λ e. one_below n p both.1 k (grind (arith, N.eq_false))
-    ] refl
+    grind (arith, (one_below n p both.1 k))
 
 -- each byte passes
 every_byte : all_below 256 has_least ≡ true

@@ -35,10 +35,19 @@ names_text done (c ∷ cs) = joined (map name_field done)
 none_put : (left : List Column) → 0 < length left → names_text [] left ≡ []
 none_put = grind arith
 
--- a name is put after others
-one_more : (done : List Column) (c : Column) (rest : List Column) (count : ℕ) → count ≡ length done + (1 + length rest)
-    → joined (map name_field done) ++ in_line (length done) (length done + 1 == count) (name_field c) ≡ names_text (done ++ c ∷ []) rest
-one_more = grind (arith, N.eq-eqb, N.length-map, joined-snoc, N.map-append, N.append_assoc, joined, N.ne_eqb, N.append-nil)
+-- The columns but these last ones were named.
+pub record Named (columns left : List Column) (index : ℕ) : Type 0 where
+  pub done : List Column
+  pub split : done ++ left ≡ columns
+  pub index_is : index ≡ length done
+
+-- one more name is put after others
+one_more : {columns left rest : List Column} {c : Column} {index count : ℕ} → left ≡ c ∷ rest → (x : Named columns left index) → count ≡ length columns
+    → (y : Named columns rest (index + 1)) × (names_text x.done left ++ in_line index (index + 1 == count) (name_field c) ≡ names_text y.done rest)
+one_more {c} is x number = (
+  record { done = x.done ++ c ∷ []; split = grind (arith, N.append_assoc); index_is = grind (arith, N.length-append) },
+  grind (arith, N.eq-eqb, N.length-map, N.length-append, joined-snoc, N.map-append, N.append_assoc, joined, N.ne_eqb, N.append-nil),
+)
 
 -- the header line begins with them
 begins : (done left : List Column) → (more : List ℕ) × (names_text done left ++ more ≡ N.header_line (done ++ left))
@@ -49,37 +58,28 @@ begins done (c ∷ cs) =
 
 -- The names of the columns but these last ones were put.
 pub record NamesPut {W : Type 0} (contents : W → Option (List ℕ)) (columns left : List Column) (index : ℕ) (before after : Sink W) : Type 0 where
-  pub done : List Column
-  pub split : done ++ left ≡ columns
-  pub index_is : index ≡ length done
-  pub puts : PutsPiece contents before after (names_text done left) (Ok (tt {0}))
+  pub names : Named columns left index
+  pub puts : PutsPiece contents before after (names_text names.done left) (Ok (tt {0}))
 
 pub names_none : {W : Type 0} {contents : W → Option (List ℕ)} {columns left : List Column} {sink : Sink W} → left ≡ columns → 0 < length columns
     → N.IsWriting sink → NamesPut contents columns left 0 sink sink
-names_none {contents} {left} {sink} e some going =
-    record { done = []; split = e; index_is = refl; puts = rw (none_put left (rw e some)) (N.PutsPiece-none _ _ _ going) }
+names_none {left} e some going =
+    record { names = record { done = []; split = e; index_is = refl }; puts = rw (none_put left (rw e some)) (N.PutsPiece-none _ _ _ going) }
 
-module _ {W : Type 0} {contents : W → Option (List ℕ)} {columns left rest : List Column} {c : Column} {index : ℕ} {a b : Sink W}
-    (is : left ≡ c ∷ rest) (x : NamesPut contents columns left index a b) where
-  module _ {count : ℕ} (number : count ≡ length columns) where
-    grown : names_text x.done left ++ in_line index (index + 1 == count) (name_field c) ≡ names_text (x.done ++ c ∷ []) rest
-    grown = grind (arith, one_more, N.length-append)
+module _ {W : Type 0} {contents : W → Option (List ℕ)} {columns left rest : List Column} {c : Column} {index count : ℕ} {a b d : Sink W}
+    (is : left ≡ c ∷ rest) (x : NamesPut contents columns left index a b) (number : count ≡ length columns) where
+  -- one more name was put
+  pub names_more : PutsPiece contents b d (in_line index (index + 1 == count) (name_field c)) (Ok (tt {0})) → NamesPut contents columns rest (index + 1) a d
+  names_more name = let m = one_more is x.names number in record { names = m.0; puts = rw (← m.1) (then_puts x.puts name) }
 
-    all : (x.done ++ c ∷ []) ++ rest ≡ columns
-    all = grind (arith, N.append_assoc)
-
-    -- one more name was put
-    pub names_more : {d : Sink W} → PutsPiece contents b d (in_line index (index + 1 == count) (name_field c)) (Ok (tt {0}))
-        → NamesPut contents columns rest (index + 1) a d
-    names_more name = record { done = x.done ++ c ∷ []; split = all; index_is = grind (arith, N.length-append); puts = rw (← grown) (then_puts x.puts name) }
-
-    -- the writer failed at the name
-    pub name_breaks : {d : Sink W} {stop : Stop} {r : Result (Unit {0}) Stop}
-        → PutsPiece {U = Unit {0}} contents b d (in_line index (index + 1 == count) (name_field c)) (Err stop) → N.IsErrAnd r (λ s. s ≡ stop)
-        → PutsPiece contents a d (N.header_line columns) r
-    name_breaks broke is_passed =
-        let more = begins (x.done ++ c ∷ []) rest in
-        rw (← ap N.header_line all, ← more.1, ← grown) (passed_piece more.0 is_passed (then_puts x.puts broke))
+  -- the writer failed at the name
+  pub name_breaks : {stop : Stop} {r : Result (Unit {0}) Stop}
+      → PutsPiece {U = Unit {0}} contents b d (in_line index (index + 1 == count) (name_field c)) (Err stop) → N.IsErrAnd r (λ s. s ≡ stop)
+      → PutsPiece contents a d (N.header_line columns) r
+  name_breaks broke is_passed =
+      let m = one_more is x.names number in
+      let more = begins m.0.done rest in
+      rw (← m.0.split, ← more.1, ← m.1) (passed_piece more.0 is_passed (then_puts x.puts broke))
 
 -- all names were put
 pub names_all : {W : Type 0} {contents : W → Option (List ℕ)} {columns left : List Column} {index : ℕ} {a b : Sink W} → left ≡ []
@@ -90,27 +90,21 @@ names_all = grind (arith, N.append-nil)
 
 -- The names of the columns but these last ones were written to the front of a slice, after the line between two sets.
 pub record NamesWritten (begun : Bool) (columns left : List Column) (index made : ℕ) (room to : List ℕ) : Type 0 where
-  pub done : List Column
-  pub split : done ++ left ≡ columns
-  pub index_is : index ≡ length done
+  pub names : Named columns left index
   pub same : length to ≡ length room
   pub within : made ≤ length to
-  pub text : take made to ≡ N.between begun ++ names_text done left
+  pub text : take made to ≡ N.between begun ++ names_text names.done left
 
 -- one more name was written after what was made
 pub name_written : {begun : Bool} {columns left rest : List Column} {c : Column} {index made m count : ℕ} {room to : List ℕ} (new more : List ℕ)
     → left ≡ c ∷ rest → NamesWritten begun columns left index made room to → count ≡ length columns → m ≤ length new
     → length (take made to ++ (new ++ more)) ≡ length to → take m new ≡ in_line index (index + 1 == count) (name_field c)
     → NamesWritten begun columns rest (index + 1) (made + m) room (take made to ++ (new ++ more))
-name_written {begun} {left} {rest} {c} {made} {m} {count} {to} new more is x number within same text =
-    let counted : count ≡ length x.done + (1 + length rest) = grind (arith, N.length-append) in
-    let grown = one_more x.done c rest count counted in
-    let last : take m new ≡ in_line (length x.done) (length x.done + 1 == count) (name_field c) = rw x.index_is at text in
+name_written new more is x number within same text =
+    let names = one_more is x.names number in
     record {
-      done = x.done ++ c ∷ [];
-      split = grind (arith, N.append_assoc);
-      index_is = grind (arith, N.length-append);
+      names = names.0;
       same = same ∙ x.same;
       within = grind (arith, N.length-append, N.length-take-le);
-      text = grind (arith, made_more, N.append_assoc, N.between, joined);
+      text = grind (arith, made_more, N.append_assoc);
     }

@@ -1,6 +1,6 @@
 -- How an export ended, by the packets of its input.
 use Rattle.tds_export.proofs as N
-use N.{List, Part, Run, Some, Stop, [], ap, arith, drop, grammar, inl, inr, length, more, subst, sym, text, ℕ, ◌++◌, ◌<◌, ◌∙◌, ◌≡◌, limits, ◌+◌}
+use N.{List, Part, Run, Some, Stop, [], ap, arith, grammar, inl, inr, length, more, subst, sym, text, ℕ, ◌++◌, ◌<◌, ◌∙◌, ◌≡◌, limits, ◌+◌}
 
 -- what the area holds at a part is kept, whatever follows
 pub kept_at : (area : N.Space) (tokens : List N.Token) (at : N.Open) (rest : List ℕ) → area.bytes ≡ N.description_of tokens at
@@ -20,18 +20,8 @@ start run = N.begun (limits run).packet_size (limits run).max_wire (Some run.inp
 zero : (n : ℕ) → 0 + n ≡ n
 zero n = omega arith
 
--- an element's end lies in the last of the packets that were needed for it
-ends_in_last : {run : Run} {part : Part} {packets : List N.Packet} (bytes element : List ℕ) → length element ≡ (grammar run).size part
-    → N.InLast (limits run).packet_size packets (length (bytes ++ element)) → N.EndsInLast run packets (length bytes) part
-ends_in_last = grind (arith, N.length-append)
-
--- a payload that begins with whole elements and one more
-split_payload : (bytes element more payload : List ℕ) → payload ≡ (bytes ++ element) ++ more → (payload ≡ bytes ++ (element ++ more))
-    × (drop (length bytes) payload ≡ element ++ more) × (N.take (length bytes) payload ≡ bytes)
-split_payload = grind (arith, N.append_assoc, N.drop-append_seam, N.take-append_seam)
-
--- the bytes after a state, where they hold no whole element
-rest_of : (bytes : List ℕ) {part payload : List ℕ} → payload ≡ bytes ++ part → drop (length bytes) payload ≡ part
+-- the bytes after a state
+rest_of : (bytes : List ℕ) {part payload : List ℕ} → payload ≡ bytes ++ part → N.drop (length bytes) payload ≡ part
 rest_of = grind (arith, N.drop-append_seam)
 
 module _ (run : Run) {q : N.PayloadView} {part : Part} {bytes : List ℕ} (side : ReaderSide run q) (spelt : N.Spelt (grammar run) N.response_start bytes part)
@@ -46,14 +36,15 @@ module _ (run : Run) {q : N.PayloadView} {part : Part} {bytes : List ℕ} (side 
       let g = grammar run in
       let e = x.element in
       let b = N.takes_begins _ _ _ _ _ q _ _ side.bytes side.left x.takes x.between in
-      let s = split_payload _ e _ _ (b.payload_is ∙ N.append_assoc (bytes ++ e) x.ahead (q.future []).bytes) in
+      let payload : N.payload_of b.packets ≡ bytes ++ (e ++ (x.ahead ++ (q.future []).bytes)) = grind (arith, N.append_assoc) in
       let refused : N.IsRefused g part (e ++ (x.ahead ++ (q.future []).bytes)) fault = grind (arith, N.length-append, N.take-append_seam) in
+      let last = N.in_last _ _ _ _ _ _ q _ _ side.left x.takes b (grind (arith, N.length-append)) in
       record {
         packets = b.packets;
         part = part;
-        stands = record { begin = b.begin; each = b.each; within = b.within };
-        leads = rw s.0 (N.longest_refused g _ _ _ _ _ spelt refused);
-        first = inl (rw s.1 refused, ends_in_last _ e x.whole (N.in_last _ _ _ _ _ _ q _ _ side.left x.takes b (grind (arith, N.length-append))));
+        stands = grind arith;
+        leads = rw payload (N.longest_refused g _ _ _ _ _ spelt refused);
+        first = inl (rw (rest_of bytes payload) refused, grind (arith, N.length-append, last));
         written = text;
         kept = kept b.packets;
       }
@@ -66,7 +57,7 @@ module _ (run : Run) {q : N.PayloadView} {part : Part} {bytes : List ℕ} (side 
     ended_in_payload m end = record {
       packets = m.packets;
       part = part;
-      stands = record { begin = m.begin; each = inl m.each; within = m.within };
+      stands = grind arith;
       leads = rw m.payload_is (N.longest_cut _ _ _ _ _ spelt short);
       first = grind (arith, rest_of);
       written = text;

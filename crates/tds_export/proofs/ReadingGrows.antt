@@ -1,6 +1,6 @@
 -- What is read grows by each element: the text so far, and the greatest span.
 use Rattle.tds_export.proofs as N
-use N.{Grows, IsNext, List, None, Open, Part, Token, [], arith, begun, grows_same, row, text, text_so_far, ℕ, ◌++◌, ◌==◌, ◌∷◌, ◌≡◌, ◌≤◌, ⊤}
+use N.{Grows, IsNext, List, None, Open, Part, Token, [], arith, begun, grows_same, row, text, text_so_far, ℕ, ◌++◌, ◌==◌, ◌∷◌, ◌≡◌, ◌≤◌}
 use N.TokenLaws.{begun_after, greatest_span-append, text_after-snoc}
 use N.ResponseLaws.{part_at}
 
@@ -8,7 +8,7 @@ use N.ResponseLaws.{part_at}
 abbrev pub IsFresh : Open → Type 0
 IsFresh (N.Describing d) = d ≡ N.BeforeCount
 IsFresh (N.InRow part) = ⊥
-IsFresh at = ⊤
+IsFresh at = N.⊤
 
 -- the cases of what a byte begins
 pub lead_cases : (charset : N.Charset) (P : Part → Type 0) (tokens : List Token) (begun : N.Option N.Lead)
@@ -66,13 +66,10 @@ module _ (charset : N.Charset) (room : ℕ) where
       → Grows (text tokens ++ N.open_text at) (text_so_far (N.part_add charset tokens at e))
   part_grows tokens N.Between e n = lead_cases charset (λ p. Grows (text tokens ++ []) (text_so_far p)) tokens _ (same_grows tokens)
       (grind (arith, start_grows)) (grind (arith, start_grows))
-  part_grows tokens (N.Describing d) e n = grind (arith, with_described_grows)
   part_grows tokens (N.InRow part) e n = N.grows_trans _ _ _ (grind (arith, N.grows_under, N.row_grows)) (with_row_grows tokens _)
-  part_grows tokens (N.InReturn part) e n = grind (arith, with_return_grows)
   part_grows tokens (N.TokenLength b) e n = N.choose (λ p. Grows (text tokens ++ []) (text_so_far p)) (N.little e == 0) _ _
       (grind (arith, token_grows)) (grind (arith, grows_same))
-  part_grows tokens (N.TokenBody b m) e n = token_grows tokens (N.bodied b e)
-  part_grows tokens (N.Fields f) e n = token_grows tokens (N.fixed f e)
+  part_grows tokens at e n = grind (arith, with_described_grows, with_return_grows, token_grows)
 
   -- all elements between two states add to the text
   pub text_along : {p q : Part} {bytes : List ℕ} → N.Spelt (N.response charset room) p bytes q → (more : List ℕ) × (text_so_far p ++ more ≡ text_so_far q)

@@ -1,9 +1,9 @@
 -- What a response's spelling is read as.
 use Rattle.tds_export.proofs as N
-use N.{List, None, Some, Spelt, Stop, arith, length, take, ℕ, ◌++◌, ◌<◌, ◌≡◌, [], ap, drop, line_at, refl, sym, true, w32, ℤ, ◌*◌, ◌+◌, ◌/◌, ◌∙◌, ◌∷◌, ◌≤◌}
-use N.{Fault, Kind, Option, Bodied, Column, Part, Token, before, described_after, if◌then◌else◌, inl, inr, lead, little, passed, response}
+use N.{List, None, Some, Spelt, Stop, arith, length, take, ℕ, ◌++◌, ◌<◌, ◌≡◌, [], ap, drop, line_at, refl, sym, true, w32, ◌*◌, ◌+◌, ◌/◌, ◌∙◌, ◌∷◌, ◌≤◌}
+use N.{Fault, Kind, Option, Bodied, Column, Part, Token, before, described_after, if◌then◌else◌, lead, little, passed, response}
 use N.Words.{return_value}
-use N.{with_token, ◌%◌, ◌&&◌, after_tokens, ⊤, Grammar, Spelt-step, Notice, append_assoc}
+use N.{with_token, ◌%◌, ◌&&◌, after_tokens, Grammar, Spelt-step, Notice, append_assoc}
 
 module _ {S : Type 0} {g : Grammar S Fault} {s t : S} where
   -- one element
@@ -37,7 +37,7 @@ pub signed_is : (n : ℕ) → N.cast_signed w32 n ≡ N.signed n
 signed_is n = grind arith
 
 -- an error as its body has it
-pub error_is : (body : List ℕ) {number line : ℤ} (at : ℕ) → 14 ≤ length body → at ≡ line_at body → line_at body + 4 ≤ length body
+pub error_is : (body : List ℕ) {number line : N.ℤ} (at : ℕ) → 14 ≤ length body → at ≡ line_at body → line_at body + 4 ≤ length body
     → number ≡ N.cast_signed w32 (N.little_number 4 body) → line ≡ N.cast_signed w32 (N.little_number 4 (drop at body))
     → ◌≡◌ {A = N.ServerError} (record { number = number; state = N.slice_index body 4; class = N.slice_index body 5; line = line })
     (N.server_error (N.notice_of body))
@@ -195,7 +195,7 @@ return_step (N.InReturnCell name kind part) b e bytes h n =
       named = h.named;
       seven = h.seven;
       type = h.type;
-      begun = N.cell_step _ _ _ _ _ e bytes h.begun (record { some = n.some; whole = n.whole; free = n.free });
+      begun = grind (arith, N.cell_step);
     })
 return_step (N.WholeReturn r) b e bytes h n = grind arith
 
@@ -209,7 +209,7 @@ described_after-append before (t ∷ a) b = described_after-append _ a b
 
 -- what is described has columns
 abbrev HasColumns : Option (List Column) → Type 0
-HasColumns None = ⊤
+HasColumns None = N.⊤
 HasColumns (Some columns) = 0 < length columns
 
 -- a body has no fault
@@ -286,9 +286,9 @@ module _ (charset : N.Charset) (room : ℕ) where
       → described_after None tokens ≡ current → HasColumns current → N.SpellsRowToken charset current cells bytes
       → Leads (after_tokens tokens) bytes (with_token tokens (N.Row cells))
   row_token_is_read None cells is some h = absurd h
-  row_token_is_read {tokens} (Some columns) cells {bytes} is some (rest, inl h) =
+  row_token_is_read {tokens} (Some columns) cells {bytes} is some (rest, N.inl h) =
       lead_then N.ARow h.0 (cc) (rw is (spelt_inside (row_agrees _) (N.row_is_read _ _ _ _ h.1)))
-  row_token_is_read {tokens} (Some columns) cells {bytes} is some (rest, inr h) =
+  row_token_is_read {tokens} (Some columns) cells {bytes} is some (rest, N.inr h) =
       lead_then N.AnNbcRow h.0 (cc) (rw is (spelt_inside (row_agrees _) (N.nbc_row_is_read _ _ _ _ (omega arith) h.1)))
 
   -- what spells a token is read as it
@@ -296,7 +296,7 @@ module _ (charset : N.Charset) (room : ℕ) where
       → N.SpellsToken charset room (described_after None tokens) t bytes → Leads (after_tokens tokens) bytes (with_token tokens t)
   token_is_read {tokens} (N.Metadata encoded columns) some h = lead_then N.AMetadata h.0 (grind arith)
       (spelt_inside (description_agrees _) (N.description_is_read _ _ _ h.1))
-  token_is_read {tokens} N.NoMetadata some h = lead_then N.AMetadata h (grind arith) (Spelt-step _ _ _ _ (omega arith) refl refl refl)
+  token_is_read {tokens} N.NoMetadata some h = lead_then N.AMetadata h (grind arith) (grind (arith, Spelt-step))
   token_is_read (N.Row cells) some h = row_token_is_read _ _ refl some h
   token_is_read {tokens} (N.PassedOver passed body) some (rest, begins, s) = lead_then (N.WithBody (N.APassed passed)) begins (grind arith)
       (spelt_body (λ e. cc) (λ e. cc) s)

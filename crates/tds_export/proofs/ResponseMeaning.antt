@@ -1,7 +1,7 @@
 -- What the bytes that lead to a part of a response spell.
 use Rattle.tds_export.proofs as N
-use N.{Bool, Column, IsFirst, Lead, List, None, Option, Some, SpellsTokens, Token, [], ap, arith, described_after, drop, false, if◌then◌else◌, inl, inr, lead}
-use N.{length, message, passed, refl, sym, take, true, ℕ, ◌%◌, ◌&&◌, ◌*◌, ◌++◌, ◌+◌, ◌/◌, ◌<◌, ◌∙◌, ◌∷◌, ◌≡◌, ◌≤◌}
+use N.{Bool, Column, IsFirst, Lead, List, None, Option, Some, SpellsTokens, Token, [], ap, arith, described_after, drop, false, if◌then◌else◌, inl, lead}
+use N.{length, message, refl, sym, take, true, ℕ, ◌%◌, ◌&&◌, ◌*◌, ◌++◌, ◌+◌, ◌/◌, ◌<◌, ◌∙◌, ◌∷◌, ◌≡◌, ◌≤◌}
 use N.ResponseLaws.{ReturnMeans, return_step, described_after-append, part_at, IsFree, parts_within}
 use N.SomeBytes.{bytes_induct}
 
@@ -119,7 +119,7 @@ module _ (charset : N.Charset) (room : ℕ) where
       → N.SpellsRowToken charset current cells (first ∷ rest)
   row_token false cells first rest e begins h = grind arith
   row_token true cells first rest e begins h =
-      rw e (rest, inr ((first, refl, begins), record { bitmap = h.0; rest = h.1; spelt = h.2; whole = h.3; each = h.4 }))
+      rw e (rest, N.inr ((first, refl, begins), record { bitmap = h.0; rest = h.1; spelt = h.2; whole = h.3; each = h.4 }))
 
   with_row_means : {tokens : List Token} (part : N.RowPart) {b : List ℕ} {columns : List Column} (nbc : Bool)
       → described_after None tokens ≡ Some columns → AfterLead tokens (row_lead nbc) (N.RowMeans charset columns nbc part) b
@@ -139,15 +139,9 @@ module _ (charset : N.Charset) (room : ℕ) where
   row_begins tokens b x (Some columns) e f h begins =
       with_row_means _ _ e (record { front = b; first = x; rest = []; spelt = refl; before = h; begins = grind arith; follows = N.row_start_means _ _ })
 
-  -- the byte begins what it begins
-  lead_step : (tokens : List Token) (b : List ℕ) (x : ℕ) {lead : Lead} → N.lead_of x ≡ Some lead → IsFirst lead x
-      → SpellsTokens charset room None tokens b → N.row_byte_fault (N.is_row_lead lead) (described_after None tokens) ≡ None
-      → PartMeans (N.after_lead charset tokens lead) (b ++ x ∷ [])
-  lead_step = grind (arith, row_begins)
-
   byte_step : (tokens : List Token) (b : List ℕ) (x : ℕ) (begun : Option Lead) → N.lead_of x ≡ begun → SpellsTokens charset room None tokens b
       → N.lead_fault (described_after None tokens) x begun ≡ None → PartMeans (N.after_first charset tokens begun) (b ++ x ∷ [])
-  byte_step = grind (arith, lead_step, N.eq_true)
+  byte_step = grind (arith, row_begins, N.eq_true)
 
   body_means : {tokens : List Token} {k : N.Bodied} {body b : List ℕ} → (h : AfterLead tokens (N.WithBody k) (N.SpellsBody body) b) → IsFree k body
       → PartMeans (N.with_token tokens (N.bodied k body)) b

@@ -1,6 +1,6 @@
 -- The tokens of a response, one after another.
 use Rattle.tds_export.proofs as N
-use N.{Bool, SinkView, Progress, Report, Space, Stop, [], ap, arith, inl, refl, response, true, ℕ, ◌++◌, ◌+◌, ◌-◌, ◌^◌, ◌∙◌, ◌≡◌, ◌≤◌, View}
+use N.{Bool, SinkView, Progress, Report, Stop, [], arith, inl, response, true, ℕ, ◌++◌, ◌+◌, ◌-◌, ◌^◌, ◌∙◌, ◌≡◌, ◌≤◌, View}
 use N.TokenSteps.{stops_further, stops_quietly, streams_both}
 
 -- whole tokens were read and their text put
@@ -16,19 +16,20 @@ abbrev pub runs_none : {charset : N.Charset} {u : View} {progress : Progress} �
     → u.area ≡ N.empty u.area.room → N.IsNoted u.notice [] → Runs charset u u progress
 runs_none {u} d tracks is noted = record {
   tokens = [];
-  streams = record { bytes = []; spelt = N.Spelt-none _ _; takes = N.Takes-none u.seen 0; puts = ([], refl, N.Puts-none _ d) };
+  streams = grind (arith, N.Spelt-none, N.Takes-none, N.Puts-none);
   place_is = omega arith;
   tracks = tracks;
-  holds = record { bytes = ap (λ (s : Space). s.bytes) is; peak = omega (arith, ap (λ (s : Space). s.peak) is) };
+  holds = grind arith;
   noted = noted;
 }
 
-module _ {charset : N.Charset} {u v : View} {s : Progress} (x : Runs charset u v s) where
-  -- nothing but the payload has changed
-  pub runs_same : {place : ℕ} {held : SinkView} {t : Progress} {area notice : Space} → place ≡ v.place → held ≡ v.held → t ≡ s → area ≡ v.area
-      → notice ≡ v.notice → Runs charset u (record v { place = place; held = held; area = area; notice = notice }) t
-  runs_same = grind arith
+-- at the message's end nothing but the payload has changed
+pub runs_ended : {R W : Type 0} {remaining : R → N.Option (N.List ℕ)} (contents : W → N.Option (N.List ℕ)) {old new : N.Exporter R W} {charset : N.Charset}
+    {u : View} → Runs charset u (N.view_of remaining contents old) old.progress → N.FindsEnd remaining old new
+    → Runs charset u (record (N.view_of remaining contents new) { seen = N.seen remaining old.payload.now }) new.progress
+runs_ended = grind arith
 
+module _ {charset : N.Charset} {u v : View} {s : Progress} (x : Runs charset u v s) where
   module _ {charset' : N.Charset} (e : charset' ≡ charset) (f : v.area.room ≡ u.area.room) where
     -- more tokens were read
     pub runs_on : {w : View} {t : Progress} → N.ReadsNext charset' (N.after_tokens x.tokens) x.tokens v w t → Runs charset u w t
@@ -44,7 +45,7 @@ module _ {charset : N.Charset} {u v : View} {s : Progress} (x : Runs charset u v
         }
 
     -- what stops a step stops the run
-    pub stops_on : {d : N.PayloadView} {k : SinkView} {area : Space} {failed : Bool} {stop : Stop}
+    pub stops_on : {d : N.PayloadView} {k : SinkView} {area : N.Space} {failed : Bool} {stop : Stop}
         → N.StepStops (response charset' v.area.room) (N.after_tokens x.tokens) v.seen d v.place v.held k area failed stop
         → N.StepStops (response charset u.area.room) N.response_start u.seen d u.place u.held k area failed stop
     stops_on y = stops_further x.streams x.place_is (rw (e, f) at y)
@@ -58,10 +59,10 @@ module _ {charset : N.Charset} {u v : View} {s : Progress} (x : Runs charset u v
         (record { fault = N.EndWithoutDone; place = N.Payload v.place })
     stops_end going d open_end =
         let stop : Stop = record { fault = N.EndWithoutDone; place = N.Payload v.place } in
-        stops_further x.streams x.place_is (stops_quietly refl x.holds d going (N.cut_at_once _ _ v.seen c _ [] o.0 stop (omega arith)
+        stops_further x.streams x.place_is (stops_quietly N.refl x.holds d going (N.cut_at_once _ _ v.seen c _ [] o.0 stop (omega arith)
         (grind (arith, N.Ends-after, N.Consumes-nil, N.Stays-none)) (grind arith)))
 
-    abbrev reads_whole : s.is_final ≡ true → N.ReadsWhole (response charset u.area.room) N.response_start u.seen c u.held v.held v.area
+    abbrev pub reads_whole : s.is_final ≡ true → N.ReadsWhole (response charset u.area.room) N.response_start u.seen c u.held v.held v.area
     reads_whole final = record {
       tokens = x.tokens;
       bytes = x.streams.bytes;
@@ -70,7 +71,7 @@ module _ {charset : N.Charset} {u v : View} {s : Progress} (x : Runs charset u v
           (N.Takes-trans u.seen v.seen c _ _ _ 1 (omega arith) x.streams.takes t);
       puts = x.streams.puts;
       over = o;
-      final = N.sym x.tracks.final ∙ final;
+      final = grind arith;
       holds = x.holds;
     }
 
@@ -80,9 +81,5 @@ module _ {charset : N.Charset} {u v : View} {s : Progress} (x : Runs charset u v
       middle = v.held;
       whole = reads_whole final;
       finishes = f;
-      report_is = is ∙ ap (λ (r : Report). record r { written = l.delivered }) x.tracks.report;
+      report_is = is ∙ N.ap (λ (r : Report). record r { written = l.delivered }) x.tracks.report;
     }
-
-    pub stops_at_end : {l : SinkView} {stop : Stop} → s.is_final ≡ true → N.FinishFails v.held l stop
-        → N.StopsAtEnd (response charset u.area.room) N.response_start u.seen c u.held l v.area stop
-    stops_at_end = grind (arith, reads_whole)

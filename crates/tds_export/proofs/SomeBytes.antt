@@ -13,12 +13,6 @@ pub little_below : (n i : ℕ) (xs : List ℕ) → AreBytes xs → N.little_from
 little_below zero i xs h = omega arith
 little_below (suc n) i xs h = grind (arith, byte_below, N.pow-suc, (little_below n (suc i) xs h))
 
--- the bytes after some bytes
-pub AreBytes-drop : (n : ℕ) (xs : List ℕ) → AreBytes xs → AreBytes (N.drop n xs)
-AreBytes-drop zero xs h = h
-AreBytes-drop (suc n) [] h = h
-AreBytes-drop (suc n) (x ∷ xs) h = AreBytes-drop n _ h.1
-
 pub AreBytes-append : (a b : List ℕ) → AreBytes a → AreBytes b → AreBytes (a ++ b)
 AreBytes-append [] b h k = k
 AreBytes-append (x ∷ a) b h k = (h.0, AreBytes-append a b h.1 k)

@@ -1,9 +1,9 @@
 -- The text so far is no longer than 64 bytes for each byte read.
 use Rattle.tds_export.proofs as N
-use N.{AreBytes, Bool, Cell, Column, IsNext, List, None, Null, Open, Part, Some, Token, [], ap, arith, choose, codes, false, field, joined, length}
-use N.{length-append, map, response, text, true, ℕ, ◌*◌, ◌++◌, ◌+◌, ◌∷◌, ◌≡◌, ◌≤◌, ⊤, ◌==◌}
+use N.{AreBytes, Bool, Column, IsNext, List, None, Open, Part, Some, Token, [], arith, choose, codes, false, joined, length}
+use N.{length-append, map, response, text, true, ℕ, ◌*◌, ◌++◌, ◌+◌, ◌∷◌, ◌≡◌, ◌≤◌, ◌==◌}
 use N.ReadingGrows.{IsFresh, lead_cases}
-use N.FieldLengths.{ReadShort, long_length, long_more, open_length, open_more, read_short}
+use N.FieldLengths.{long_length, long_more, open_length, open_more, read_short}
 use N.TokenLaws.{bare, bare_body, bare_fixed, begun_after, text_after-snoc}
 use N.ResponseLaws.{part_at}
 use N.SomeBytes.{bytes_induct}
@@ -18,51 +18,32 @@ before_last fs = length (joined (fs ++ [] ∷ []))
 last_length : (fs : List (List ℕ)) (f : List ℕ) → length (joined (fs ++ f ∷ [])) ≡ before_last fs + length f
 last_length [] f = omega arith
 last_length (x ∷ []) f = grind (arith, length-append)
-last_length (x ∷ y ∷ fs) f = omega (
-  arith,
-  length-append (x ++ codes ",") (joined (y ∷ (fs ++ f ∷ []))),
-  length-append (x ++ codes ",") (joined (y ∷ (fs ++ [] ∷ []))),
-  last_length (y ∷ fs) f,
-)
+last_length (x ∷ y ∷ fs) f = grind (arith, length-append, (last_length (y ∷ fs) f))
 
 -- a comma at most
 before_last_most : (fs : List (List ℕ)) → before_last fs ≤ length (joined fs) + 1
 before_last_most [] = omega arith
 before_last_most (x ∷ []) = grind (arith, length-append)
-before_last_most (x ∷ y ∷ fs) = omega (
-  arith,
-  length-append (x ++ codes ",") (joined (y ∷ fs)),
-  length-append (x ++ codes ",") (joined (y ∷ (fs ++ [] ∷ []))),
-  before_last_most (y ∷ fs),
-)
+before_last_most (x ∷ y ∷ fs) = grind (arith, length-append, (before_last_most (y ∷ fs)))
 
 -- one more field
 one_more_length : (fs : List (List ℕ)) (f : List ℕ) → length (joined (fs ++ f ∷ [])) ≤ length (joined fs) + 1 + length f
 one_more_length = grind (arith, last_length, before_last_most)
 
--- one more cell
-one_more_cell : (cells : List Cell) (c : Cell) → length (joined (map field (cells ++ c ∷ []))) ≤ length (joined (map field cells)) + 1 + length (field c)
-one_more_cell = grind (arith, N.map-append, one_more_length)
-
 -- the field that is read has at most 48 bytes more
 abbrev FieldMore : N.Option (List ℕ) → N.Option (List ℕ) → Type 0
-FieldMore None None = ⊤
+FieldMore None None = N.⊤
 FieldMore None (Some b) = length b ≤ 48
 FieldMore (Some a) None = ⊥
 FieldMore (Some a) (Some b) = length b ≤ length a + 48
 
 -- ---- a cell
 
--- a scalar that is read
-value_more : (r : N.Result N.ScalarValue N.ValueFault) → ReadShort r → FieldMore None (N.field_so_far (N.value_part r))
-value_more r h = grind arith
-
 module _ (column : ℕ) where
   -- each element of a cell adds no more
   cell_more : (p : N.CellPart) {e : List ℕ} → AreBytes e → IsNext (N.cell column) p e → FieldMore (N.field_so_far p) (N.field_so_far (N.cell_add p e))
-  cell_more (N.ScalarBytes k i) {e} bytes n = value_more _ (read_short k e bytes)
-  cell_more (N.ScalarLength k) {e} bytes n = choose (λ p. FieldMore None (N.field_so_far p)) (N.slice_index e 0 == 0) (N.WholeCell Null) _ (λ z. omega arith)
-      (λ z. tt)
+  cell_more (N.ScalarBytes k i) bytes n = grind (arith, read_short)
+  cell_more (N.ScalarLength k) {e} bytes n = grind (arith, choose)
   cell_more (N.ShortLength c) bytes n = grind (arith, choose, long_length, open_length)
   cell_more (N.Total c) bytes n = grind (arith, choose, open_length)
   cell_more (N.WholeCell x) bytes n = omega arith
@@ -89,14 +70,10 @@ row_pending part = 0
 abbrev row_length : N.RowPart → ℕ
 row_length part = length (N.row_so_far part) + row_pending part
 
--- one more column
-one_null : (c : Column) (b : Bool) (ks : List (Column × Bool)) {n : ℕ} → how_many_null ks ≤ n → how_many_null ((c, b) ∷ ks) ≤ N.suc n
-one_null = grind arith
-
 -- no more of them than columns
 null_most : (columns : List Column) (nulls : ℕ → Bool) (k : ℕ) → how_many_null (N.marked columns nulls k) ≤ length columns
 null_most [] nulls k = omega arith
-null_most (c ∷ columns) nulls k = one_null c (nulls k) _ (null_most columns nulls (k + 1))
+null_most (c ∷ columns) nulls k = grind (arith, (null_most columns nulls (k + 1)))
 
 -- none without a bitmap
 none_null : (columns : List Column) (k : ℕ) → how_many_null (N.marked columns (λ i. false) k) ≡ 0
@@ -105,10 +82,10 @@ none_null (c ∷ columns) k = none_null columns (k + 1)
 
 module _ (charset : N.Charset) where
   -- the cells to come begin
-  next_length : (cells : List Cell) (ks : List (Column × Bool))
-      → row_length (N.next_cell charset cells ks) ≤ length (joined (map field cells)) + 5 * how_many_null ks + 2
+  next_length : (cells : List N.Cell) (ks : List (Column × Bool))
+      → row_length (N.next_cell charset cells ks) ≤ length (joined (map N.field cells)) + 5 * how_many_null ks + 2
   next_length cells [] = grind (arith, length-append, joined)
-  next_length cells ((k, true) ∷ ks) = omega (arith, next_length (cells ++ Null ∷ []) ks, one_more_cell cells Null)
+  next_length cells ((k, true) ∷ ks) = grind (arith, N.map-append, one_more_length, (next_length (cells ++ N.Null ∷ []) ks))
   next_length cells ((k, false) ∷ ks) = grind (arith, N.start_quiet)
 
 -- ---- a description, whose columns pay for its header
@@ -128,7 +105,7 @@ header_more columns c =
       arith,
       one_more_length fs f,
       long_length N.Utf16Text c.name,
-      ap (λ v. length (N.line v)) (N.map-append N.name_field columns (c ∷ [])),
+      N.ap (λ v. length (N.line v)) (N.map-append N.name_field columns (c ∷ [])),
       length-append (joined (fs ++ f ∷ [])) N.line_end,
       length-append (joined fs) N.line_end,
     )
@@ -154,10 +131,6 @@ grown p = length (N.text_so_far p) + pending p.at
 -- a row in its response
 with_row_grown : (tokens : List Token) (part : N.RowPart) → grown (N.with_row tokens part) ≤ length (text tokens) + row_length part
 with_row_grown = grind (arith, length-append, N.append-nil, begun_after, text_after-snoc)
-
--- a return value in its response
-with_return_grown : (tokens : List Token) (part : N.ReturnPart) → grown (N.with_return tokens part) ≤ length (text tokens)
-with_return_grown = grind (arith, N.append-nil, text_after-snoc, bare, begun_after, length-append)
 
 module _ (charset : N.Charset) (room : ℕ) where
   -- a row that begins has at most the end of its line
@@ -187,11 +160,10 @@ module _ (charset : N.Charset) (room : ℕ) where
     last_length,
     one_more_length,
     row_starts,
+    with_row_grown,
     begun_after,
     N.append-nil,
     text_after-snoc,
-    with_return_grown,
-    with_row_grown,
     length-append,
   )
 

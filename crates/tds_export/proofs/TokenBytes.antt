@@ -7,10 +7,6 @@ use N.TokenSteps.{OpenTexts, holds-snoc, quietly, row_stops, row_text, stops_fur
 use N.ResponseLaws.{described_after-append, spelt_both}
 use N.TokenLaws.{text_after-snoc, tracks_row, with_rows}
 
--- a byte that is no other token's
-is_token_byte : {byte x : ℕ} → (if x == byte then None else Some (N.RefusedToken x)) ≡ None → x ≡ byte
-is_token_byte = grind arith
-
 -- rows describe no columns
 rows_describe : {before : N.Option (List N.Column)} (rs : List (List Cell)) → N.described_after before (map Row rs) ≡ before
 rows_describe [] = refl
@@ -36,10 +32,7 @@ module _ (which : N.RowToken) (charset : Charset) (room : ℕ) (all : List N.Col
 
     element_next : {before : List (List Cell)} (p : N.RowPart) (e : List ℕ) → IsNext (rows which charset all) (record { before = before; at = p }) e
         → Steps (record { before = before; at = p }) e ((rows which charset all).add (record { before = before; at = p }) e)
-    element_next (N.WholeRow cells) [] n = grind arith
-    element_next (N.WholeRow cells) (x ∷ []) n = rw (is_token_byte n.free) (grind (arith, append_assoc, described_after-append, N.map-append, rows_describe))
-    element_next (N.WholeRow cells) (x ∷ y ∷ r) n = grind arith
-    element_next p e n = grind arith
+    element_next = grind (arith, N.eq_true, append_assoc, described_after-append, N.map-append, rows_describe)
 
     -- what is read of rows from their start on and put, is read of the response and put
     abbrev rows_stream : {t : RowsPart} {a b : PayloadView} {h j : SinkView}
@@ -55,25 +48,17 @@ module _ (which : N.RowToken) (charset : Charset) (room : ℕ) (all : List N.Col
         in
         record { bytes = x.bytes; spelt = rw begins at spelt; takes = x.takes; puts = (x.puts.0, same, x.puts.2) }
 
--- so many rows more are counted
-tracks_rows : (s : N.Progress) (tokens : List Token) (r : List Cell) (rs : List (List Cell)) → N.TracksBefore s tokens
-    → Tracks (with_rows s (length (r ∷ rs))) (tokens ++ map Row (r ∷ rs))
-tracks_rows s tokens r [] k = tracks_row k r
-tracks_rows s tokens r (q ∷ qs) k =
+-- these rows more are counted
+tracks_rows : {s : N.Progress} (tokens : List Token) (rs : List (List Cell)) → 0 < length rs → N.TracksBefore s tokens
+    → Tracks (with_rows s (length rs)) (tokens ++ map Row rs)
+tracks_rows tokens [] some k = absurd (omega arith)
+tracks_rows tokens (r ∷ []) some k = tracks_row k r
+tracks_rows {s} tokens (r ∷ q ∷ qs) some k =
     let first = tracks_row k r in
     let n : (s.report.rows + 1) + length (q ∷ qs) ≡ s.report.rows + length (r ∷ q ∷ qs) = omega arith in
     rw (append_assoc tokens (Row r ∷ []) (map Row (q ∷ qs))) at
     (N.subst (λ (n : ℕ). Tracks (record s { report = record s.report { rows = n } }) ((tokens ++ Row r ∷ []) ++ map Row (q ∷ qs))) n
-    (tracks_rows (with_rows s 1) (tokens ++ Row r ∷ []) q qs (grind arith)))
-
--- the same, the last row named
-tracks_all : {s : N.Progress} {tokens : List Token} (earlier : List (List Cell)) (last : List Cell) {count : ℕ} → count ≡ length earlier + 1
-    → N.TracksBefore s tokens → Tracks (with_rows s count) (tokens ++ map Row (earlier ++ last ∷ []))
-tracks_all {s} {tokens} earlier last counted k = rw (N.length-append earlier (last ∷ []) ∙ sym counted) at (go earlier)
-  where
-    go : (earlier : List (List Cell)) → Tracks (with_rows s (length (earlier ++ last ∷ []))) (tokens ++ map Row (earlier ++ last ∷ []))
-    go [] = tracks_rows s _ _ [] k
-    go (r ∷ rs) = tracks_rows s _ r _ k
+    (tracks_rows {s = with_rows s 1} (tokens ++ Row r ∷ []) (q ∷ qs) (omega arith) (grind arith)))
 
 -- the description stays what it was
 rows_hold : (area : N.Space) (tokens : List Token) (rs : List (List Cell)) → N.IsHolding area (after_tokens tokens)
@@ -101,6 +86,7 @@ module _ (which : N.RowToken) (charset : Charset) {columns : List N.Column} {aft
       (record u { seen = b; place = place; held = after }) (with_rows s count)
   rows_read y =
       let x = rw shown at y in
+      let long = N.length-append x.earlier (x.last ∷ []) in
       let there = rows_stream _ _ _ _ _ (columns_known tokens described begun.holds.bytes begun.tracks.described) x.streams in
       let end = ap after_tokens (append_assoc tokens (map Row x.earlier) (Row x.last ∷ [])
       ∙ ap (λ l. tokens ++ l) (sym (N.map-append Row x.earlier (x.last ∷ [])))) in
@@ -108,7 +94,7 @@ module _ (which : N.RowToken) (charset : Charset) {columns : List N.Column} {aft
         more = map Row (x.earlier ++ x.last ∷ []);
         streams = record { bytes = x.streams.bytes; spelt = rw (← end) there.spelt; takes = x.streams.takes; puts = grind arith };
         place_is = x.place_is;
-        tracks = tracks_all x.earlier x.last x.counted begun.tracks;
+        tracks = rw (long ∙ sym x.counted) at (tracks_rows _ (x.earlier ++ x.last ∷ []) (omega (arith, long)) begun.tracks);
         holds = rows_hold _ _ (x.earlier ++ x.last ∷ []) begun.holds;
       })
 

@@ -133,13 +133,6 @@ module _ {s : N.Progress} {ts : List Token} (k : N.Reflects s ts false) where
   tracks_body (N.APassed passed) body h = tracks_quiet _ refl k.final
   tracks_body which body h = cc
 
-  pub tracks_none : Tracks (record s { described = false }) (ts ++ N.NoMetadata ∷ [])
-  tracks_none = grind (arith, tracked)
-
-  pub tracks_metadata : (bytes : List ℕ) {columns : List N.Column} → N.columns_of bytes ≡ columns
-      → Tracks (record s { report = record s.report { sets = s.report.sets + 1 }; described = true }) (ts ++ Metadata bytes columns ∷ [])
-  tracks_metadata bytes shown = grind (arith, tracked)
-
   pub tracks_row : (cells : List N.Cell) → Tracks (with_rows s 1) (ts ++ Row cells ∷ [])
   tracks_row cells = grind (arith, tracked)
 
@@ -148,12 +141,3 @@ module _ {s : N.Progress} {ts : List Token} (k : N.Reflects s ts false) where
   pub tracks_error : (n : N.Notice) {first : Option N.ServerError} → first ≡ N.option_map N.server_error (first_error (ts ++ Error n ∷ []))
       → Tracks (record s { report = record s.report { errors = s.report.errors + 1; first_error = first } }) (ts ++ Error n ∷ [])
   tracks_error n e = grind (arith, tracked)
-
-  pub tracks_info : (n : N.Notice) → Tracks (record s { report = record s.report { infos = s.report.infos + 1 } }) (ts ++ N.Info n ∷ [])
-  tracks_info n = grind (arith, tracked)
-
-  -- ---- RETURNVALUE
-
-  pub tracks_returned : (v : N.ReturnValue) → Tracks (record s { report = record s.report { return_values = s.report.return_values + 1 } })
-      (ts ++ N.Returned v ∷ [])
-  tracks_returned v = grind (arith, tracked)

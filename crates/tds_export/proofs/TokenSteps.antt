@@ -1,10 +1,10 @@
 -- The tokens, as they are read and their text is put.
 use Rattle.tds_export.proofs as N
-use N.{Bool, Charset, Column, Fault, Grammar, SinkView, IsHolding, List, Option, Part, Progress, Report, PayloadView, Space, Stop, Takes, Token, View, []}
-use N.{after_tokens, ap, append-nil, arith, between, false, in_metadata, inl, inr, length, max, refl, subst, sym, text, text_so_far, true, view_of, with_row, ℕ}
+use N.{Bool, Charset, Column, Fault, Grammar, SinkView, IsHolding, List, Option, Part, Progress, Report, PayloadView, Space, Stop, Token, View, []}
+use N.{after_tokens, ap, append-nil, arith, between, false, in_metadata, inl, inr, length, refl, subst, sym, text, text_so_far, true, view_of, with_row, ℕ}
 use N.{◌%◌, ◌++◌, ◌+◌, ◌-◌, ◌<◌, ◌==◌, ◌^◌, ◌∙◌, ◌∷◌, ◌≡◌, ◌≤◌}
 use N.TokenLaws.{bare, bare_fixed, begun_after, begun_where_sets, encoded_after-append, greatest_span-append, is_bare, same_first, text_after-snoc}
-use N.TokenLaws.{tracks_metadata, tracks_none, tracks_quiet}
+use N.TokenLaws.{tracked}
 use N.ResponseLaws.{description_agrees, row_agrees, part_at, inside, read_inside, stop_inside}
 
 -- A token has begun: what the tokens before it left is known, and the sink goes on.
@@ -32,7 +32,7 @@ module _ {g : Grammar Part Fault} {s t : Part} {a b c : PayloadView} {h i k : Si
   abbrev pub streams_both : {u : Part} → N.Streams g text_so_far t b c i k u → N.Streams g text_so_far s a c h k u
   streams_both {u} y = record {
     bytes = x.bytes ++ y.bytes;
-    spelt = N.Spelt-append g s _ t _ u x.spelt y.spelt;
+    spelt = grind (arith, N.Spelt-append);
     takes = N.takes_both a b c _ _ x.takes y.takes;
     puts = N.puts_both text_so_far s t u h i k x.puts y.puts;
   }
@@ -99,20 +99,10 @@ module _ {tokens : List Token} {s : Progress} {u : View} (begun : OpenTexts toke
 module _ (charset : Charset) {tokens : List Token} {s : Progress} {u : View} (begun : OpenTexts tokens s u) (b : PayloadView) {place : ℕ} where
   -- a token with fields of a fixed length was read
   pub fixed_reads : {progress : Progress} {which : N.Fixed} (fields : List ℕ) → place ≡ u.place + N.fields_length which
-      → length fields ≡ N.fields_length which → Takes u.seen b fields (N.fields_length which) → N.Tracks progress (tokens ++ N.fixed which fields ∷ [])
+      → length fields ≡ N.fields_length which → N.Takes u.seen b fields (N.fields_length which) → N.Tracks progress (tokens ++ N.fixed which fields ∷ [])
       → progress.report.errors ≡ s.report.errors → ReadsQuiet charset (N.in_fields which tokens) tokens u b place progress
   fixed_reads {which} fields at len takes tracks same = quietly begun same (bare_reads begun _ (grind (arith, N.reads_one)) (rw len at) refl
       (bare_fixed _ _) tracks)
-
-  -- a DONE or DONEPROC was read
-  pub done_reads : (fields : List ℕ) → place ≡ u.place + length fields → length fields ≡ 12 → Takes u.seen b fields (length fields)
-      → ReadsQuiet charset (N.in_done tokens) tokens u b place (record s { is_final = N.slice_index fields 0 % 2 == 0 })
-  done_reads fields at len takes = fixed_reads _ (rw len at at) len (rw len at takes) (tracks_quiet begun.tracks _ refl (grind arith)) refl
-
-  -- a DONEINPROC was read
-  pub done_in_proc_reads : (fields : List ℕ) → place ≡ u.place + 12 → length fields ≡ 12 → Takes u.seen b fields 12
-      → ReadsQuiet charset (N.in_done_in_proc tokens) tokens u b place s
-  done_in_proc_reads fields at len takes = fixed_reads _ at len takes (tracks_quiet begun.tracks _ refl begun.tracks.final) refl
 
 -- ---- ROW
 
@@ -129,7 +119,7 @@ row_text = grind (arith, append-nil, text_after-snoc)
 -- and while a row is read
 row_holds : {area : Space} {tokens : List Token} (part : N.RowPart) → IsHolding area (after_tokens tokens) → IsHolding area (with_row tokens part)
 row_holds (N.WholeRow cells) h = holds-snoc _ refl h
-row_holds part h = record { bytes = h.bytes; peak = h.peak }
+row_holds part h = grind arith
 
 module _ (charset : Charset) (room : ℕ) {place : ℕ} {start : N.RowPart} {area : Space} {before after : SinkView} {a b : PayloadView} {failed : Bool} {stop
     : Stop}
@@ -161,13 +151,9 @@ module _ (charset : Charset) (room : ℕ) {place : ℕ} {start : N.RowPart} {are
 
 -- ---- COLMETADATA
 
-metadata_holds : {area old_area : Space} {tokens : List Token} (columns : List Column) (peak : area.peak ≤ max old_area.peak (length area.bytes + 0))
+metadata_holds : {area old_area : Space} {tokens : List Token} (columns : List Column) (peak : area.peak ≤ N.max old_area.peak (length area.bytes + 0))
     → IsHolding old_area (after_tokens tokens) → IsHolding area (after_tokens (tokens ++ N.Metadata area.bytes columns ∷ []))
 metadata_holds = grind (arith, encoded_after-append, greatest_span-append)
-
-open_text_none : (tokens : List Token) (d : N.DescriptionPart) → 0 < N.described_size d
-    → text_so_far (N.with_described tokens d) ≡ text_so_far (in_metadata tokens)
-open_text_none = grind arith
 
 some_bytes : (room : ℕ) (area bytes : List ℕ) (columns : List Column) → N.Spelt (N.description room) N.BeforeCount bytes (N.WholeDescription area columns)
     → 0 < length bytes
@@ -189,7 +175,7 @@ module _ (charset : Charset) {tokens : List Token} {s : Progress} {u : View} {ar
           puts = same_text (in_metadata tokens) (N.with_token tokens N.NoMetadata) _ (simp (text_after-snoc, append-nil)) begun.delivered;
         };
         place_is = x.place_is;
-        tracks = tracks_none begun.tracks;
+        tracks = grind (arith, tracked);
         holds = grind (arith, encoded_after-append, greatest_span-append);
       })
 
@@ -215,7 +201,7 @@ module _ (charset : Charset) {tokens : List Token} {s : Progress} {u : View} {ar
             puts = grind (arith, between, append-nil, begun_after, begun_where_sets, text_after-snoc);
           };
           place_is = x.place_is;
-          tracks = tracks_metadata begun.tracks _ shown;
+          tracks = grind (arith, tracked, shown);
           holds = metadata_holds _ x.bound begun.holds;
         })
 
@@ -226,7 +212,7 @@ module _ (charset : Charset) {tokens : List Token} {s : Progress} {u : View} {ar
     metadata_breaks few between_b breaks =
         let header = between _ ++ N.header_line columns in
         let l = N.last_inside _ _ _ (inside (description_agrees _ _ _)) _ _ _ x.reads.spelt (some_bytes _ _ _ _ x.reads.spelt) in
-        let open_text = open_text_none tokens l.at l.size in
+        let open_text : text_so_far (N.with_described tokens l.at) ≡ text_so_far (in_metadata tokens) = grind arith in
         record {
           at = N.with_described tokens l.at;
           breaks = record {

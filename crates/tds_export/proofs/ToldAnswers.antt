@@ -1,14 +1,14 @@
 -- What an export answers, where its reader and writer tell their bytes.
 use Rattle.tds_export.proofs as N
 use N.{AreBytes, Bool, ExportInput, SinkView, IsWriter, List, Ok, Packet, Part, Puts, Run, PayloadView, Some, Spelt, Stop, [], ap, append-nil, arith, drop}
-use N.{fresh_at, grammar, grammar_of, inl, inr, length, length-append, limits, more, payload_of, read, refl, response, response_start, run_of, subst, sym, take}
+use N.{fresh_at, grammar, inl, inr, length, length-append, limits, more, payload_of, read, refl, response, response_start, run_of, subst, sym, take}
 use N.{text, text_put, text_so_far, wire_of, ℕ, ◌%◌, ◌*◌, ◌++◌, ◌+◌, ◌-◌, ◌/◌, ◌<◌, ◌∙◌, ◌∷◌, ◌≡◌, ◌≤◌}
 use N.Words.{Tells}
 use N.SomeBytes.{AreBytes-append}
-use N.Peaks.{bounded, further, reached_broken, reached_stopped, reached_whole, rest_leads}
+use N.Peaks.{Reached, bounded, reached_stopped}
 use N.TextBound.{bounded_along}
 use N.DeviceFaults.{no_failure}
-use N.AcceptedSucceeds.{outcome_succeeds}
+use N.AcceptedSucceeds.{further, outcome_succeeds, rest_leads}
 use N.ResponseMeaning.{response_is_spelt}
 use N.ResponseLaws.{spelt_both}
 use N.ReadingGrows.{text_along}
@@ -36,13 +36,7 @@ sends {given} middle {l} {put} piece sent writer p a =
 -- the payload of packets is shorter than their wire, and of bytes where that is
 payload_short : (packets : List Packet) → length (payload_of packets) ≤ length (wire_of packets)
 payload_short [] = omega arith
-payload_short (p ∷ packets) = omega (
-  arith,
-  payload_short packets,
-  length-append p.body (payload_of packets),
-  length-append (N.packet_bytes p) (wire_of packets),
-  length-append p.id p.body,
-)
+payload_short (p ∷ packets) = grind (arith, length-append, (payload_short packets))
 
 payload_bytes : (packets : List Packet) → AreBytes (wire_of packets) → AreBytes (payload_of packets)
 payload_bytes [] h = tt
@@ -68,11 +62,6 @@ exact = grind (arith, length-append)
 
 -- ---- a run that stopped in writing
 
--- the longest part of a payload that begins with these bytes has their text, and more of it
-longest_text : (charset : N.Charset) (room : ℕ) {bytes : List ℕ} (more : List ℕ) {p q : Part} {place : ℕ} → Spelt (response charset room) response_start bytes p
-    → N.Longest (response charset room) response_start (bytes ++ more) place q → (rest : List ℕ) × (text_so_far p ++ rest ≡ text_so_far q)
-longest_text charset room more {p} {q} h l = text_along _ _ (further _ _ p q _ _ _ h l).1
-
 -- a part that fewer bytes lead to has no more text than that before the last element
 earlier_text : (charset : N.Charset) (room : ℕ) (bytes element : List ℕ) (p q : Part) (place : ℕ) → Spelt (response charset room) response_start bytes p
     → length element ≡ (response charset room).size p → place < length (bytes ++ element)
@@ -93,12 +82,12 @@ earlier_text charset room bytes element p q place h whole less k = elim (dec_le 
 ]
 
 -- the writer broke: the last packet read was needed to fill the block
-broken : {run : Run} {q : PayloadView} {k : SinkView} (at : Part) (stop : Stop) → ReaderSide run q → IsWriter run.given k
+broken : {run : Run} {q : PayloadView} {k : SinkView} {at : Part} {stop : Stop} → ReaderSide run q → IsWriter run.given k
     → (x : N.WritesPrefixStreaming (grammar run) text_so_far response_start (start run) q (fresh_at run.given) k at stop)
     → N.IsHolding run.given.after.areas.description ((grammar run).add at x.element)
     → run.gained ≡ (subst (Puts (fresh_at run.given) x.middle) x.puts.1 x.puts.2).0 ++ x.breaks.0
-    → text_put run ≡ text_so_far at ++ take x.breaks.2 x.more → N.StopsInText run N.WriteFailed (length run.gained)
-broken {run} {q} at stop side writer x holds gained all =
+    → text_put run ≡ text_so_far at ++ take x.breaks.2 x.more → N.StopsInText run N.WriteFailed (length run.gained) × N.Bounded run
+broken {run} {q} {k} {at} side writer x holds gained all =
     let g = grammar run in
     let f = run.given.before.reader.failures in
     let be = x.bytes ++ x.element in
@@ -110,14 +99,15 @@ broken {run} {q} at stop side writer x holds gained all =
     let more = x.ahead ++ (q.future []).bytes in
     let payload_is = b.payload_is ∙ N.append_assoc be x.ahead (q.future []).bytes in
     let longest = N.some_longest g _ _ in
-    let beyond = longest_text _ _ _ spelt (subst (λ v. N.Longest g response_start v longest.0 longest.1) payload_is longest.2) in
+    let beyond = text_along _ _ (further g _ to longest.1 be more longest.0 spelt
+    (subst (λ v. N.Longest g response_start v longest.0 longest.1) payload_is longest.2)).1 in
     let last = N.in_last _ _ f _ _ _ q _ _ side.left x.takes b (grind (arith, length-append)) in
     let early = N.some_longest g _ _ in
     let fewer : early.0 < length be = omega arith in
-    let short = earlier_text _ _ _ _ at early.1 early.0 x.spelt x.next.whole fewer (subst (λ v. Spelt g response_start v early.1) (sym
-    (grind (arith, N.take-append-le)) ∙ ap (take early.0) (sym (ap payload_of (sym last.split) ∙ N.flat_map-append _ last.before (last.last ∷ [])) ∙ payload_is)
-    ∙ N.take-append-le early.0 be more (omega arith)) early.2.spelt)
-    in
+    let front : take early.0 (payload_of last.before) ≡ take early.0 be = sym (grind (arith, N.take-append-le))
+    ∙ ap (take early.0) (sym (ap payload_of (sym last.split) ∙ N.flat_map-append _ last.before (last.last ∷ [])) ∙ payload_is)
+    ∙ N.take-append-le early.0 be more (omega arith) in
+    let short = earlier_text _ _ _ _ at early.1 early.0 x.spelt x.next.whole fewer (rw front at early.2.spelt) in
     let total : length (text_put run) ≡ 4096 * (p.1 + y.1 + 1) =
     omega (arith, ap length gained, ap length writer.waiting, length-append run.gained (N.waiting run), length-append p.0 y.0) in
     let chunks : length (text_put run) ≡ 4096 * (length run.gained / 4096 + 1) = grind (arith, length-append) in
@@ -129,20 +119,33 @@ broken {run} {q} at stop side writer x holds gained all =
       within = omega (arith, ap length payload_is, length-append be more);
       spelt = rw (ap (take (length be)) payload_is ∙ N.take-append_seam be more) spelt;
     } in
-    record {
+    let reached : Reached run to = record {
       packets = b.packets;
-      place = longest.0;
-      part = longest.1;
-      more = drop y.2 x.more ++ beyond.0;
-      stands = record { begin = b.begin; each = b.each; within = b.within };
-      leads = longest.2;
-      fault_is = refl;
-      written_is = refl;
-      begins = text_more;
-      needed = inr (last.before, last.last, early.0, early.1, last.split, early.2, chunks, omega arith);
-      failed = subst (N.Rose run.given.before.writer.failures) (sym (cc) ∙ writer.failures) (N.rose _);
-      kept = (length be, to, comes, kept_at run.given.after.areas.description to.tokens _ (drop (length be) (payload_of b.packets)) holds.bytes);
-    }
+      rest = run.left;
+      begin = b.begin;
+      each = b.each;
+      within = b.within;
+      bytes = be;
+      more = more;
+      spelt = spelt;
+      payload_is = payload_is;
+    } in (
+      record {
+        packets = b.packets;
+        place = longest.0;
+        part = longest.1;
+        more = drop y.2 x.more ++ beyond.0;
+        stands = grind arith;
+        leads = longest.2;
+        fault_is = refl;
+        written_is = refl;
+        begins = text_more;
+        needed = inr (last.before, last.last, early.0, early.1, last.split, early.2, chunks, omega arith);
+        failed = subst (N.Rose run.given.before.writer.failures) (sym (cc) ∙ writer.failures) (N.rose _);
+        kept = (length be, to, comes, kept_at run.given.after.areas.description to.tokens _ (drop (length be) (payload_of b.packets)) holds.bytes);
+      },
+      bounded side.bytes reached holds.peak,
+    )
 
 -- ---- a run that read the whole response
 
@@ -154,12 +157,15 @@ record WholeMessage (run : Run) (tokens : List N.Token) : Type 0 where
   leads : N.ReadsPart run packets (length (payload_of packets)) (N.after_tokens tokens)
   spelt : Spelt (grammar run) response_start (payload_of packets) (N.after_tokens tokens)
   kept : N.Keeps run packets (length (payload_of packets)) (N.after_tokens tokens)
+  most : N.Bounded run
 
-whole_message_of : {run : Run} {q : PayloadView} {old new : SinkView} → ReaderSide run q
-    → (x : N.ReadsWhole (grammar run) response_start (start run) q old new run.given.after.areas.description) → WholeMessage run x.tokens
-whole_message_of {run} {q} side x =
-    let m = N.over_front _ _ _ _ _ q _ _ side.bytes side.left x.takes x.over in
-    grind (arith, N.over_front, payload_bytes, N.AreBytes-front, response_is_spelt, append-nil, N.longest_cut, kept_at)
+whole_message_of : {run : Run} {a q : PayloadView} {old new : SinkView} → a ≡ start run → ReaderSide run q
+    → (x : N.ReadsWhole (grammar run) response_start a q old new run.given.after.areas.description) → WholeMessage run x.tokens
+whole_message_of {run} {a} {q} is side x =
+    let m = N.over_front _ _ _ _ _ q _ _ side.bytes side.left (rw is at x.takes) x.over in
+    let reached : Reached run (N.after_tokens x.tokens) = grind (arith, append-nil) in
+    let most = bounded side.bytes reached x.holds.peak in
+    grind (arith, payload_bytes, N.AreBytes-front, response_is_spelt, append-nil, N.longest_cut, kept_at)
 
 text_after_tokens : (tokens : List N.Token) → text_so_far (N.after_tokens tokens) ≡ text tokens
 text_after_tokens = grind (arith, append-nil)
@@ -183,75 +189,52 @@ whole_puts x = rw (x.puts.1 ∙ text_after_tokens x.tokens) at x.puts.2
 -- what is told of a stop, with the sink left in this state
 abbrev StopTold : ExportInput → (input left : List ℕ) → Stop → SinkView → Type 0
 StopTold given input left stop l = (gained : List ℕ) × N.Appends given.before.writer.bytes given.after.writer.bytes gained
-    × N.AfterStop (run_of given input left gained) (N.stopped_with stop l)
+    × N.Answer (run_of given input left gained) (N.Err (N.stopped_with stop l))
 
-module _ (given : ExportInput) (input left : List ℕ) (q : PayloadView) (stop : Stop) (are : AreBytes input) (ql : q.left
-    ≡ Some left) (reader : N.IsReader given q)
-    (none : given.after.areas.notice.bytes ≡ []) where
-  -- the payload before anything was read of it
-  abbrev began : PayloadView
-  began = start (run_of given input left [])
-
-  -- the payload stopped
-  stop_reading : {middle l : SinkView} → IsWriter given l
-      → N.StopsInReading (grammar_of given) response_start began q 0 (fresh_at given) middle given.after.areas.description stop → N.FlushedOrFailed middle l
-      → StopTold given input left stop l
-  stop_reading {l} writer y t =
-      let p = rw y.puts.1 at y.puts.2 in
-      let d = sends _ _ _ writer p t.1 in
-      let stops = reading_stops (grind arith) y.stops y.holds (d.all ∙ append-nil (text_so_far y.at)) in (
-        d.gained,
-        d.has,
-        record {
-          stop = stops;
-          written = exact (run_of given input left d.gained) l.delivered d.delivered (fits _ _ _ are stops);
-          unwritten = cc;
-          no_notice = none;
-          none_waits = grind arith;
-        },
-      )
-
+module _ {given : ExportInput} {input left : List ℕ} {q : PayloadView} {stop : Stop} (are : AreBytes input) (ql : q.left ≡ Some left)
+    (reader : N.IsReader given q) (none : given.after.areas.notice.bytes ≡ []) where
   -- the writer failed
   in_text : {k : SinkView} {gained : List ℕ} → IsWriter given k → N.Appends given.before.writer.bytes given.after.writer.bytes gained
-      → k.delivered ≡ N.counted 0 (length gained)
-      → N.StopsInText (run_of given input left gained) N.WriteFailed (length gained) → stop ≡ record { fault = N.WriteFailed; place = N.Text k.delivered }
+      → k.delivered ≡ N.counted 0 (length gained) → stop ≡ record { fault = N.WriteFailed; place = N.Text k.delivered }
+      → N.StopsInText (run_of given input left gained) N.WriteFailed (length gained) × N.Bounded (run_of given input left gained)
       → StopTold given input left stop k
-  in_text {k} {gained} writer has delivered stops is =
+  in_text {k} {gained} writer has delivered is (stops, most) =
       let run = run_of given input left gained in
       let written = exact run _ delivered (fits run N.WriteFailed (N.Text (length gained)) are stops) in
       grind arith
 
-  -- the writer broke
-  stop_writing : (k : SinkView) → IsWriter given k
-      → N.StopsInWriting (grammar_of given) response_start began q (fresh_at given) k given.after.areas.description stop → StopTold given input left stop k
-  stop_writing k writer y =
-      let x = y.breaks in
-      let d = sends _ _ _ writer (rw x.puts.1 at x.puts.2) x.breaks.3 in
-      in_text writer d.has d.delivered (broken _ _ (grind arith) writer x y.holds refl d.all) x.breaks.8
-
-  -- the last delivery failed
-  stop_at_end : (k : SinkView) → IsWriter given k
-      → N.StopsAtEnd (grammar_of given) response_start began q (fresh_at given) k given.after.areas.description stop → StopTold given input left stop k
-  stop_at_end k writer y =
-      let d = sends _ _ _ writer (whole_puts y.whole) y.fails.1 in
-      in_text writer d.has d.delivered (failed_at_end (whole_message_of (grind arith) y.whole) (simp (d.all, append-nil))
-      (grind (arith, N.rose))) y.fails.2
-
-  -- each of these
+  -- a stop in reading, in writing, and where the last delivery failed
   stopped_of : {k l : SinkView} {failed : Bool} → IsWriter given l
-      → N.RunStops (grammar_of given) response_start began q 0 (fresh_at given) k given.after.areas.description failed stop
+      → N.RunStops (N.grammar_of given) response_start (start (run_of given input left [])) q 0 (fresh_at given) k given.after.areas.description failed stop
       → (failed ≡ N.false → N.FlushedOrFailed k l) → (failed ≡ N.true → l ≡ k) → StopTold given input left stop l
-  stopped_of {k} {l} writer (inl (inl y)) tidy same = stop_reading writer y.0 (tidy y.1)
-  stopped_of {k} writer (inl (inr y)) tidy same = rw (same y.1) (stop_writing k (grind arith) y.0)
-  stopped_of {k} writer (inr y) tidy same = rw (same y.1) (stop_at_end k (grind arith) y.0)
-
-  -- the bound on its descriptions
-  stop_bounded : {gained : List ℕ} {k : SinkView} {failed : Bool}
-      → N.RunStops (grammar_of given) response_start began q 0 (fresh_at given) k given.after.areas.description failed stop
-      → N.Bounded (run_of given input left gained)
-  stop_bounded {gained} (inl (inl y)) = bounded _ _ are (reached_stopped _ q are ql y.0.stops) y.0.holds.peak
-  stop_bounded {gained} (inl (inr y)) = bounded _ _ are (reached_broken _ q are ql y.0) y.0.holds.peak
-  stop_bounded {gained} (inr y) = bounded _ _ are (reached_whole _ q are ql y.0.whole) y.0.whole.holds.peak
+  stopped_of {k} {l} writer (inl (inl (y, going))) tidy same =
+      let d = sends _ _ _ writer (rw y.puts.1 at y.puts.2) (tidy going).1 in
+      let run = run_of given input left d.gained in
+      let side : ReaderSide run q = grind arith in
+      let stops = reading_stops side y.stops y.holds (d.all ∙ append-nil (text_so_far y.at)) in (
+        d.gained,
+        d.has,
+        record {
+          outcome = record {
+            stop = stops;
+            written = exact run l.delivered d.delivered (fits _ _ _ are stops);
+            unwritten = cc;
+            no_notice = none;
+            none_waits = grind arith;
+          };
+          bounded = bounded are (reached_stopped side y.stops) y.holds.peak;
+        },
+      )
+  stopped_of {k} writer (inl (inr (y, broke))) tidy same =
+      let x = y.breaks in
+      let w : IsWriter given k = grind arith in
+      let d = sends _ _ _ w (rw x.puts.1 at x.puts.2) x.breaks.3 in
+      rw (same broke) (in_text w d.has d.delivered x.breaks.8 (broken (grind arith) w x y.holds refl d.all))
+  stopped_of {k} writer (inr (y, broke)) tidy same =
+      let w : IsWriter given k = grind arith in
+      let d = sends _ _ _ w (whole_puts y.whole) y.fails.1 in
+      let whole = whole_message_of {run = run_of given input left d.gained} refl (grind arith) y.whole in
+      rw (same broke) (in_text w d.has d.delivered y.fails.2 (failed_at_end whole (simp (d.all, append-nil)) (grind (arith, N.rose)), whole.most))
 
 -- what a run that stopped read
 stops_read : {g : N.Grammar Part N.Fault} {a q : PayloadView} {h k : SinkView} {area : N.Space} {failed : Bool} {stop : Stop}
@@ -261,24 +244,18 @@ stops_read h8 = grind arith
 pub stop_tells : {given : ExportInput} {stopped : N.Stopped} → N.StopsExport given stopped → Tells given (N.Err stopped)
 unfolding Tells
 stop_tells {given} x = λ input are e. let stops = rw (begins_run given e) at x.stops in
-    let read = stops_read stops in
-    let left = known_left _ _ read.1 in
-    let all = stopped_of _ _ _ _ _ are left.1 x.reader x.notice x.writer stops x.tidied x.same in
-    let most = stop_bounded _ _ _ _ _ are left.1 x.reader x.notice stops in
-    let outcome = rw (← x.stopped_is) at all.2 in
-    (left.0, all.0, cc, all.1, record { outcome = outcome; bounded = most }, outcome_succeeds _ outcome)
+    let left = known_left _ _ (stops_read stops).1 in
+    let all = rw (← x.stopped_is) at (stopped_of are left.1 x.reader x.notice x.writer stops x.tidied x.same) in
+    (left.0, all.0, cc, all.1, all.2, outcome_succeeds _ all.2.outcome)
 
 pub report_tells : {given : ExportInput} {report : N.Report} → N.Reports given report → Tells given (Ok report)
 unfolding Tells
-report_tells {given} {report} x = λ input are e. let z = subst (λ (a : PayloadView). (c : N.CompletesResponse (grammar_of given) response_start a x.seen
-    (fresh_at given) x.held report given.after.areas.description)
-    × (given.after.areas.notice.bytes ≡ N.error_text c.whole.tokens)) (begins_run given e) (x.completes, x.notice) in
-    let y = z.0 in
+report_tells {given} {report} x = λ input are e. let y = x.completes in
     let tokens = y.whole.tokens in
-    let left = known_left input y.whole.takes.0 y.whole.takes.1.0 in
+    let left = known_left input y.whole.takes.0 (rw e at y.whole.takes.1.0) in
     let d = sends y.middle [] y.finishes.0 x.writer (whole_puts y.whole) y.finishes.1 in
     let run = run_of given input left.0 d.gained in
-    let whole = whole_message_of (grind arith) y.whole in
+    let whole = whole_message_of {run = run} (begins_run given e) (grind arith) y.whole in
     let empty = sym x.writer.waiting ∙ y.finishes.2 in
     let same = d.all ∙ append-nil (text tokens) in
     let gained = sym (append-nil run.gained) ∙ ap (λ w. run.gained ++ w) (sym empty) ∙ same in
@@ -293,9 +270,8 @@ report_tells {given} {report} x = λ input are e. let z = subst (λ (a : Payload
       report_is = cc;
       written = gained;
       none_waits = empty;
-      notice = z.1;
+      notice = x.notice;
       kept = whole.kept;
       no_failure = no_failure given report x;
     } in
-    let most = bounded run (N.after_tokens tokens) are (reached_whole run x.seen are left.1 y.whole) y.whole.holds.peak in
-    (left.0, d.gained, cc, d.has, record { outcome = outcome; bounded = most }, outcome_succeeds (Ok report) outcome)
+    (left.0, d.gained, cc, d.has, record { outcome = outcome; bounded = whole.most }, outcome_succeeds (Ok report) outcome)

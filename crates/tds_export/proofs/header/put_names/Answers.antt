@@ -1,10 +1,10 @@
 use Rattle.tds_export.proofs as N
 use N.header.put_names.Goals as goal
-use N.{ap, ◌∙◌}
+use N.{◌∙◌}
 use N.NameTexts.{name_breaks, names_all, names_more, names_none}
 
 pub names-init : goal.names-init
-names-init g c = names_none (ap N.columns_left c.into_iter-column-iterator.ensures.into_iter_gives ∙ c.walk-column-items.ensures.value) (omega N.arith)
+names-init g c = names_none (N.ap N.columns_left c.into_iter-column-iterator.ensures.into_iter_gives ∙ c.walk-column-items.ensures.value) (omega N.arith)
     c.requires
 
 pub returns-in_err-put_name : goal.returns-in_err-put_name

@@ -1,8 +1,16 @@
 use Rattle.tds_export.proofs as N
 use N.header.write_header.Goals as goal
 use N.NameTexts.{name_written}
-use N.{◌-◌}
+use N.{[], ◌-◌}
 use borrow.Rule.Slice.PartMut.{same_len_mid}
+
+pub names-init : goal.names-init
+names-init c = record {
+  names = record { done = []; split = search N.rules; index_is = N.refl };
+  same = search N.rules;
+  within = search N.rules;
+  text = grind (N.arith, N.common_steps);
+}
 
 pub names-preserved : goal.names-preserved
 names-preserved c =

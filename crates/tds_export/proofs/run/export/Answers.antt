@@ -1,8 +1,8 @@
 use Rattle.tds_export.proofs as N
 use N.run.export.Goals as goal
-use N.{Space, ap, arith, refl, ◌≡◌}
+use N.{ap, arith, refl, ◌≡◌}
 use N.DeviceFaults.{blamed, no_failure}
-use N.Endings.{exports, rooms, stops_export}
+use N.Endings.{rooms}
 use N.ToldAnswers.{report_tells, stop_tells}
 use N.run.export.Given.{Over}
 
@@ -26,8 +26,15 @@ all_read : (g : Over) (c : goal.In-Ok g) → N.Reports (reported g c) c.in-Ok.re
 all_read g c =
     let emptied = rooms _ _ c.requires c.restart.ensures.emptied in
     let limit : c.max_wire-max_wire.result ≡ c.args.areas.now.limits.max_wire = search N.rules in
-    exports _ _ _ _ _ _ _ _ _ c.new-payload.ensures.begun.begins emptied.0 limit c.new-sink.ensures.held emptied.1
-    (record { left = refl; failures = refl }) (record { has = refl; waiting = refl; failures = refl }) c.in-Ok.ensures.gives
+    let gives = rw (c.new-payload.ensures.begun.begins, emptied.0, limit, c.new-sink.ensures.held, emptied.1) at c.in-Ok.ensures.gives in
+    record {
+      seen = _;
+      held = _;
+      reader = record { left = refl; failures = refl };
+      writer = record { has = refl; waiting = refl; failures = refl };
+      completes = gives.0;
+      notice = gives.1;
+    }
 
 pub returns-in-Ok-clause-exports : goal.returns-in-Ok-clause-exports
 returns-in-Ok-clause-exports g c =
@@ -56,9 +63,21 @@ read_so_far : (g : Over) (c : goal.After-to-in-Err-1 g) → N.StopsExport (stopp
 read_so_far g c =
     let emptied = rooms _ _ c.requires c.restart.ensures.emptied in
     let limit : c.max_wire-max_wire.result ≡ c.args.areas.now.limits.max_wire = search N.rules in
-    stops_export c.new-payload.ensures.begun.begins emptied.0 limit c.new-sink.ensures.held emptied.1 c.new-payload.ensures.begun.place
-    (record { left = refl; failures = refl }) (record { has = refl; waiting = refl; failures = refl }) c.in-Err.ensures.gives c.stop_at.ensures.tidied
-    (λ failed. ap (N.held g.W.Write.contents) (c.stop_at.ensures.failed failed)) c.stop_at.ensures.stop (ap (λ (s : Space). s.bytes) c.clear.ensures.value)
+    let begins = c.new-payload.ensures.begun in
+    record {
+      seen = _;
+      middle = _;
+      held = _;
+      failed = _;
+      stop = _;
+      reader = record { left = refl; failures = refl };
+      writer = record { has = refl; waiting = refl; failures = refl };
+      stops = rw (begins.begins, emptied.0, limit, c.new-sink.ensures.held, emptied.1, begins.place) at c.in-Err.ensures.gives;
+      tidied = c.stop_at.ensures.tidied;
+      same = λ failed. ap (N.held g.W.Write.contents) (c.stop_at.ensures.failed failed);
+      stopped_is = c.stop_at.ensures.stop;
+      notice = ap (λ (s : N.Space). s.bytes) c.clear.ensures.value;
+    }
 
 pub returns-in-Err-clause-exports : goal.returns-in-Err-clause-exports
 returns-in-Err-clause-exports g c =

@@ -1,7 +1,8 @@
 use Rattle.tds_export.proofs as N
 use N.exporter.Exporter.done.Goals as goal
 use N.{refl, rules, ◌≡◌}
-use N.TokenSteps.{done_reads, stops_first, step_read}
+use N.TokenSteps.{fixed_reads, stops_first, step_read}
+use N.TokenLaws.{tracks_quiet}
 use N.ResponseLaws.{fill_cut}
 
 pub returns-in_err-fill : goal.returns-in_err-fill
@@ -11,4 +12,6 @@ returns-in_err-fill g c = step_read c.requires.running (search rules) (λ tokens
 
 pub returns : goal.returns
 returns g c = step_read c.requires.running (search rules)
-    (λ tokens begun. done_reads _ begun _ _ c.in_ok-fill.ensures.place (search rules) c.in_ok-fill.ensures.all)
+    (λ tokens begun. let twelve : N.length c.fill.new.to ≡ 12 = search rules in
+    fixed_reads _ begun _ {which = N.ADone} _ (rw twelve at c.in_ok-fill.ensures.place) twelve (rw twelve at c.in_ok-fill.ensures.all)
+    (tracks_quiet begun.tracks _ refl (grind N.arith)) refl)

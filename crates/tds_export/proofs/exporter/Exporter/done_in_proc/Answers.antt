@@ -1,7 +1,8 @@
 use Rattle.tds_export.proofs as N
 use N.exporter.Exporter.done_in_proc.Goals as goal
 use N.{refl}
-use N.TokenSteps.{done_in_proc_reads, stops_first, step_read}
+use N.TokenSteps.{fixed_reads, stops_first, step_read}
+use N.TokenLaws.{tracks_quiet}
 use N.ResponseLaws.{part_cut}
 
 pub returns-in_err-pass : goal.returns-in_err-pass
@@ -11,4 +12,4 @@ returns-in_err-pass g c = step_read c.requires.running (search N.rules)
 
 pub returns : goal.returns
 returns g c = step_read c.requires.running (search N.rules) (λ tokens begun. let all = c.in_ok-pass.ensures.all in
-    done_in_proc_reads _ begun _ _ c.in_ok-pass.ensures.place all.counted all.takes)
+    fixed_reads _ begun _ {which = N.ADoneInProc} _ c.in_ok-pass.ensures.place all.counted all.takes (tracks_quiet begun.tracks _ refl begun.tracks.final) refl)

@@ -1,11 +1,11 @@
 use Rattle.tds_export.proofs as N
 use N.exporter.Exporter.return_status.Goals as goal
-use N.{[], ap, little, refl, rules, ℕ, ℤ, ◌++◌, ◌+◌, ◌∙◌, ◌∷◌, ◌≡◌}
+use N.{[], little, refl, rules, ◌++◌, ◌+◌, ◌∙◌, ◌∷◌, ◌≡◌}
 use N.ResponseLaws.{fill_cut, signed_is}
 use N.TokenSteps.{fixed_reads, stops_first, step_read}
 use N.TokenLaws.{tracked}
 
-tracks_status : {s : N.Progress} {ts : N.List N.Token} (n : ℕ) {status : ℤ} → status ≡ N.signed n → N.TracksBefore s ts
+tracks_status : {s : N.Progress} {ts : N.List N.Token} (n : N.ℕ) {status : N.ℤ} → status ≡ N.signed n → N.TracksBefore s ts
     → N.Tracks (record s { report = record s.report { return_status = N.Some status } }) (ts ++ N.ReturnStatus n ∷ [])
 tracks_status n e k = grind (N.arith, tracked)
 
@@ -19,6 +19,6 @@ returns g c = step_read c.requires.running (search rules) (λ tokens begun. let 
     let four : N.length fields ≡ 4 = search rules in
     let status = N.cast_signed N.w32 (N.cast_unsigned N.w32 c.read_i32-status.result) in
     let kept : status ≡ c.read_i32-status.result = search rules in
-    let is = kept ∙ c.read_i32-status.ensures ∙ signed_is _ ∙ ap (λ n. N.signed (N.little_number n fields)) (N.sym four) in
-    fixed_reads _ begun _ _ (c.in_ok-fill.ensures.place ∙ ap (λ n. c.args.self.now.payload.now.place + n) four) four
+    let is = kept ∙ c.read_i32-status.ensures ∙ signed_is _ ∙ N.ap (λ n. N.signed (N.little_number n fields)) (N.sym four) in
+    fixed_reads _ begun _ _ (rw four at c.in_ok-fill.ensures.place) four
     (rw four at c.in_ok-fill.ensures.all) (tracks_status _ is begun.tracks) refl)

@@ -1,7 +1,7 @@
 use Rattle.tds_export.proofs as N
 use N.exporter.Exporter.run.Goals as goal
-use N.{ap, arith, held, inl, refl, rules, true, ◌∙◌, ◌≡◌}
-use N.RunSteps.{completes, runs_none, runs_on, runs_same, stops_at_end, stops_end, stops_on}
+use N.{arith, held, inl, refl, rules, true, ◌∙◌, ◌≡◌}
+use N.RunSteps.{completes, runs_none, runs_on, runs_ended, reads_whole, stops_end, stops_on}
 
 pub tokens-init : goal.tokens-init
 tokens-init g c = record {
@@ -42,25 +42,27 @@ returns-then-not-self-clause-gives g c = λ tracks empty noted. let first = c.to
     let y = rw c.if-branch.false at (c.in_ok-token.ensures.gives first.tokens first.tracks first.holds first.noted) in
     let open_end : c.token.new.self.progress.is_final ≡ N.false = search rules in
     let sink = c.in_ok-token.ensures.leaves.running.sink in
-    rw (c.in_payload.ensures, c.place-place.ensures) (inl (stops_end (runs_same first y.place (ap
-    (held g.W.Write.contents) y.sink) y.progress y.area y.notice) y.takes y.over sink.writing sink.ready.2 open_end))
+    rw (c.in_payload.ensures, c.place-place.ensures) (inl (stops_end (runs_ended g.W.Write.contents first y) y.takes y.over sink.writing sink.ready.2 open_end))
 
 pub returns-in_err-finish-clause-gives : goal.returns-in_err-finish-clause-gives
 returns-in_err-finish-clause-gives g c = λ tracks empty noted. let first = c.tokens.invariant.runs tracks empty noted in
     let y = rw c.if-branch.false at (c.in_ok-token.ensures.gives first.tokens first.tracks first.holds first.noted) in
     let final : c.token.new.self.progress.is_final ≡ true = search rules in
     N.passed _ _ _ _ c.from_residual-in_err-finish.ensures.1 (N.inr (
-      stops_at_end (runs_same first y.place (ap (held g.W.Write.contents) y.sink) y.progress y.area y.notice) y.takes y.over final
-          (c.in_err-finish.ensures.gives c.in_ok-token.ensures.leaves.running.sink.writing),
+      record {
+        middle = _;
+        whole = reads_whole (runs_ended g.W.Write.contents first y) y.takes y.over final;
+        fails = c.in_err-finish.ensures.gives c.in_ok-token.ensures.leaves.running.sink.writing;
+      },
       c.in_err-finish.ensures.failed,
     ))
 
 pub returns-clause-gives : goal.returns-clause-gives
 returns-clause-gives g c = λ tracks empty noted. let first = c.tokens.invariant.runs tracks empty noted in
     let y = rw c.if-branch.false at (c.in_ok-token.ensures.gives first.tokens first.tracks first.holds first.noted) in
-    let x = runs_same first y.place (ap (held g.W.Write.contents) y.sink) y.progress y.area y.notice in
+    let x = runs_ended g.W.Write.contents first y in
     let final : c.token.new.self.progress.is_final ≡ true = search rules in (
-      completes x y.takes y.over final c.in_ok-finish.ensures.gives (ap (λ n. record c.token.new.self.progress.report { written = n }) c.delivered.ensures),
+      completes x y.takes y.over final c.in_ok-finish.ensures.gives (N.ap (λ n. record c.token.new.self.progress.report { written = n }) c.delivered.ensures),
       x.noted,
     )
 
