@@ -1,5 +1,4 @@
-use Rattle.std.proofs.Common.{refl, rules}
-use Rattle.tds_replay.specs.Exporting.{standing}
+use Rattle.tds_replay.proofs.Words as N
 
 pub returns : Rattle.tds_replay.proofs.responses.export_all.Goals.returns
 returns g c =
@@ -7,11 +6,11 @@ returns g c =
     record {
       reports = each.ensures.0;
       stop = each.ensures.1;
-      middle = standing each.new.areas each.new.from each.new.to each.new.notes;
+      middle = N.standing each.new.areas each.new.from each.new.to each.new.notes;
       runs = each.ensures.2;
       status_is = each.ensures.4;
-      areas = refl;
-      reader = refl;
-      writer = refl;
-      line = rw (← each.ensures.3) (search rules);
+      areas = N.refl;
+      reader = N.refl;
+      writer = N.refl;
+      line = rw (← each.ensures.3) (search N.rules);
     }
