@@ -1,5 +1,5 @@
 -- What a joiner does with a piece and at the end. `old` and `new` are the bytes that it withholds, `before` and `after` the sink.
-use Rattle.std.specs.Prelude.{◌≡◌, ◌≢◌, ℕ, ◌+◌, ◌<◌, ◌%◌, Bool, true, false, List, [], ◌++◌, length, take, Option, Result, Ok, Err}
+use Rattle.std.specs.Prelude.{◌≡◌, ◌≢◌, ℕ, ◌+◌, ◌*◌, ◌<◌, ◌≤◌, ◌%◌, Bool, true, false, List, [], ◌++◌, length, take, Option, MatchOption, Result, Ok, Err}
 use Rattle.tds_csv.specs.declared.joiners.JoinFault.{JoinFault}
 use Rattle.tds_csv.specs.declared.joiners.JoinFault.TheVariants.{Stopped, Odd, BadText}
 use Rattle.tds_text.specs.Joining.{emit}
@@ -24,6 +24,19 @@ pub record TakesUpTo (begins : List ℕ → Type 0) (rest text : List ℕ → Li
   pub within : k < length piece
   pub good : TakesPiece begins rest text old new before after (take k piece)
   pub bad : ¬ (begins (old ++ take (k + 1) piece))
+
+-- nothing was withheld; what the piece adds is at the front of a room, and its rest is withheld
+pub record WritesAdded (begins : List ℕ → Type 0) (rest text : List ℕ → List ℕ) (old new piece to : List ℕ) (made : ℕ) : Type 0 where
+  pub none : old ≡ []
+  pub begun : begins (old ++ piece)
+  pub short : made ≤ 3 * length piece
+  pub written : take made to ≡ emit rest text (old ++ piece)
+  pub withheld : new ≡ rest (old ++ piece)
+
+-- What a piece adds was written to a room; or nothing was done, since bytes are withheld or the piece begins no data.
+abbrev pub AddedWritten : (begins : List ℕ → Type 0) → (rest text : List ℕ → List ℕ) → (old new piece to : List ℕ) → Option ℕ → Type 0
+AddedWritten begins rest text old new piece to result =
+    MatchOption result ((new ≡ old) × (old ≡ [] → ¬ (begins piece))) (λ made. WritesAdded begins rest text old new piece to made)
 
 -- the withheld bytes are whole, and their text is put
 pub record Completes (fit : List ℕ → Type 0) (text : List ℕ → List ℕ) (old new : List ℕ) (before after : SinkView) : Type 0 where

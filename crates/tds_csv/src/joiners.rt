@@ -1,7 +1,8 @@
 // Conversions whose data comes in pieces.
-ghost use Rattle.std.specs.Prelude.{◌≡◌, ◌<◌, ◌%◌, ℕ, Bool, List, [], length, ⊤};
+ghost use Rattle.std.specs.Prelude.{◌≡◌, ◌+◌, ◌*◌, ◌<◌, ◌≤◌, ◌%◌, ℕ, Bool, List, [], length, ⊤};
 ghost use Rattle.tds_text.specs.Joining.{JoinsPieces};
-ghost use Rattle.tds_csv.specs.Pushing.{EndsPieces, PushesPiece};
+ghost use Rattle.tds_text.specs.Plain.{LiesIn};
+ghost use Rattle.tds_csv.specs.Pushing.{AddedWritten, EndsPieces, PushesPiece};
 ghost use Rattle.tds_csv.specs.Sinks.{IsReady};
 ghost use Rattle.tds_csv.specs.declared.joiners.JoinFault.TheVariants.{Stopped};
 
@@ -79,6 +80,17 @@ pub trait Joiner: Sized {
         requires begun { begins (withheld self.old) }
         ensures { PushesPiece W.contents begins rest text (withheld self.old) (withheld self.new)
             sink.old sink.new piece.now result };
+
+    /// Writes what [`push`](Joiner::push) puts of a piece to the front of a slice if nothing is withheld, withholds the rest, and
+    /// returns how long the text is. What follows the piece in the source may be looked at. `None` if bytes are withheld, or if
+    /// the piece has a bad one: nothing was done then.
+    fn write(&mut self, piece: &[u8], source: &[u8], to: &mut [u8]) -> Option<usize>
+        requires begun { begins (withheld self.old) }
+        requires source { LiesIn piece.now source.now }
+        requires room { 3 * length piece.now + 16 ≤ length to.old }
+        ensures begun { begins (withheld self.new) }
+        ensures written { AddedWritten begins rest text (withheld self.old) (withheld self.new)
+            piece.now to.new result };
 
     /// Puts the text of the withheld bytes, which are whole.
     fn end<W: Write>(&mut self, sink: &mut Sink<'_, W>) -> Result<(), JoinFault>

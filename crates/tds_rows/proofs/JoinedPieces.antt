@@ -28,6 +28,12 @@ module _ {fit begins : List ℕ → Type 0} {rest text : List ℕ → List ℕ} 
           kept_is = x.withheld ∙ suits.rest_is _ ∙ ap (λ o. conversion_rest c (o ++ piece)) is ∙ sym ((joins_by_name c).keeps content piece all);
         }
 
+    pub piece_added : {new piece to : List ℕ} {made : ℕ} → N.WritesAdded begins rest text old new piece to made
+        → BeginsData c (content ++ piece) × (N.take made to ≡ N.added_text c content piece) × (new ≡ conversion_rest c (content ++ piece))
+    piece_added {piece = piece} x =
+        let all = begun_with piece x.begun in
+        (all, grind arith, x.withheld ∙ suits.rest_is _ ∙ ap (λ o. conversion_rest c (o ++ piece)) is ∙ sym ((joins_by_name c).keeps content piece all))
+
     piece_bad : {new : List ℕ} {k : ℕ} {h i : SinkView} {column most : ℕ} {a b : PayloadView} {place : ℕ} (piece : List ℕ) → length piece ≤ most
         → Takes a b piece 1 → IsBetween b → N.TakesUpTo begins rest text old new h i piece k
         → N.RefusesData c content column most a b place h i (record { fault = N.BadText column; place = N.Payload (place + k) })

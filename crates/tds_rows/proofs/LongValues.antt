@@ -63,7 +63,7 @@ module _ {column : ℕ} {c : Conversion} {state : ℕ → List ℕ → CellPart}
   front_spelt d _ r is begun = grind (arith, content_spelt)
 
   -- what some content adds to the open field
-  text_more : (d more : List ℕ) → BeginsData c (d ++ more)
+  pub text_more : (d more : List ℕ) → BeginsData c (d ++ more)
       → after_comma column (open_field c d) ++ added_text c d more ≡ after_comma column (open_field c (d ++ more))
   text_more d _ begun = grind (arith, N.open_grows)
 

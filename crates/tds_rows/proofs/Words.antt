@@ -29,7 +29,7 @@ pub use Rattle.tds_text.proofs.Utf16Steps.{nil_of_length, text_nil}
 pub use Rattle.tds_text.specs.Conversion.{is_begun, IsFit, is_quoted, Conversion, BeginsData, Utf16Text, Suits, is_fit, long_field, unit, conversion_rest}
 pub use Rattle.tds_text.specs.Conversion.{closing, HexDigits, Windows1252Text, open_field, Utf8Text, conversion_text}
 pub use Rattle.tds_text.specs.Joining.{emit}
-pub use Rattle.tds_csv.specs.Pushing.{TakesUpTo, Completes, EndsBy, Pushes, is_stopped, LeavesPart, TakesPiece}
+pub use Rattle.tds_csv.specs.Pushing.{WritesAdded, TakesUpTo, Completes, EndsBy, Pushes, is_stopped, LeavesPart, TakesPiece}
 pub use Rattle.tds_text.specs.Quoting.{null_field, joined, after_comma, quote, in_line, binary_mark, end_after}
 pub use Rattle.tds_csv.specs.Sinks.{IsWriting, held, PutsPiece, WritesPrefix, IsOnSameSink, Puts, SinkView}
 pub use Rattle.tds_csv.specs.Streaming.{StopsStreaming, Streams, PutsText, WritesPrefixStreaming}
@@ -76,6 +76,11 @@ pub use Rattle.tds_rows.specs.LongReading.{IsOnSameValue}
 pub use Rattle.tds_rows.specs.LongCells.{RefusesNumber, EndsData, added_text, StopsFilling, chunk_length_fault, EndPut, RefusesData}
 pub use Rattle.tds_rows.specs.LongCells.{StopsData, ReadsNumber, CutsBytes, ending, WritesPrefixOfData, join_stop}
 pub use Rattle.tds_rows.specs.LongCells.{opening}
+pub use Rattle.tds_cells.specs.Cells.{within_total}
+pub use lib.Seq.{take-add}
+pub use Rattle.std.proofs.Math.Seq.{take-append-add}
+pub use Rattle.std.proofs.lemmas.List.{take-append-le}
+pub use Rattle.std.proofs.Common.{length-drop}
 pub use Rattle.tds_rows.specs.LongCells.{FillsData, TakesData}
 pub use Rattle.tds_cells.specs.MarkedRuns.{WritesColumn, WritesMarked}
 pub use Rattle.tds_cells.specs.MarkedRuns.{WritesNext}

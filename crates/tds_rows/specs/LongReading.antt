@@ -1,13 +1,15 @@
 -- The reading of long values as the contracts of its steps see it.
-use Rattle.std.specs.Prelude.{◌≡◌, ◌<◌, ℕ, List, [], Option, Result}
+use Rattle.std.specs.Prelude.{◌≡◌, ◌<◌, ℕ, Bool, List, [], Option, Result}
 use Rattle.tds_packet.specs.declared.fault.Stop.{Stop}
 use Rattle.tds_packet.specs.declared.payload.Payload.{Payload}
-use Rattle.tds_packet.specs.Payloads.{IsGoing, LeavesPayload}
+use Rattle.tds_packet.specs.Payloads.{IsGoing, LeavesPayload, seen}
 use Rattle.tds_csv.specs.declared.sink.Sink.{Sink}
-use Rattle.tds_csv.specs.Sinks.{IsWriting, LeavesSink}
+use Rattle.tds_csv.specs.Sinks.{IsWriting, LeavesSink, held}
 use Rattle.tds_rows.specs.declared.cell.streamed.LongValue.{LongValue}
 use Rattle.tds_rows.specs.Blames.{Blames, failures_of}
 use Rattle.tds_rows.specs.CellSteps.{FieldPut}
+use Rattle.tds_rows.specs.ChunkRuns.{RunsChunks}
+use Rattle.tds_rows.specs.RunPuts.{PutsRun}
 use Rattle.tds_cells.specs.Cells.{CellPart}
 
 -- Data is being joined: the payload hands out bytes, the sink takes text, and some whole data begins with what is withheld.
@@ -44,3 +46,11 @@ abbrev pub ValuePut : {J R W U : Type 0} → (R → Option (List ℕ)) → (W �
     → Result U Stop → Type 0
 ValuePut remaining contents start old new result =
     FieldPut remaining contents start old.column old.last old.payload.now new.payload.now old.sink.now new.sink.now result
+
+-- Chunks after so many bytes of data, with as many as the call returns, were read without a packet and their text put.
+abbrev pub ChunksTaken : {J R W : Type 0} → (List ℕ → Type 0) → (List ℕ → Type 0) → (List ℕ → List ℕ) → (List ℕ → List ℕ) → ℕ → Bool → (J → List ℕ)
+    → (R → Option (List ℕ)) → (W → Option (List ℕ)) → Option ℕ → ℕ → LongValue J R W → LongValue J R W → ℕ → Type 0
+ChunksTaken fit begins rest text unit quoted withheld remaining contents total sum old new n =
+    PutsRun (RunsChunks fit begins rest text unit quoted (withheld old.joiner.now) (withheld new.joiner.now) total sum n)
+    (seen remaining old.payload.now) (seen remaining new.payload.now) old.payload.now.place new.payload.now.place
+    (held contents old.sink.now) (held contents new.sink.now)

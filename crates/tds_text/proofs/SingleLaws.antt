@@ -1,6 +1,6 @@
 -- The laws of the conversions in which each byte stands alone.
 use Rattle.tds_text.proofs as N
-use N.{◌≡◌, ◌∙◌, ℕ, ◌/◌, ◌%◌, ◌*◌, ◌+◌, ◌≤◌, List, [], ◌∷◌, ◌++◌, length, refl, ⊤}
+use N.{◌≡◌, ◌∙◌, ℕ, ◌/◌, ◌%◌, ◌*◌, ◌+◌, ◌-◌, ◌≤◌, List, [], ◌∷◌, ◌++◌, length, refl, ⊤}
 use Rattle.tds_text.specs.Binary as binary
 use Rattle.tds_text.specs.Windows1252 as windows_1252
 use Rattle.hex.specs.Hex.{encode_with}
@@ -33,6 +33,18 @@ hex-front n m xs within =
     let size : 2 * n ≡ length front = omega (N.arith, hex-length N.lower_digits (N.take n xs), N.length-take-le n xs within) in
     N.ap (λ l. N.take (2 * n) (N.encode_lower l)) (N.take-add n m xs) ∙ N.ap (N.take (2 * n)) (hex-append N.lower_digits (N.take n xs) (N.take m (N.drop n xs)))
     ∙ N.ap (λ (k : ℕ). N.take k (front ++ N.encode_lower (N.take m (N.drop n xs)))) size ∙ N.take-append_seam front _
+
+-- the digits of bytes come first among those of bytes that begin with them
+pub hex_padded : (bytes source written more : List ℕ) (m : ℕ) → N.LiesIn bytes source → length bytes ≤ m → m ≤ length source
+    → written ≡ N.encode_lower (N.take m source) → N.take (2 * length bytes) (written ++ more) ≡ N.encode_lower bytes
+hex_padded bytes source written more m lies most within is =
+    let n = length bytes in
+    let k = m - n in
+    let split : m ≡ n + k = omega N.arith in
+    let size : length written ≡ 2 * m =
+    N.ap length is ∙ hex-length N.lower_digits (N.take m source) ∙ N.ap (λ j. 2 * j) (N.length-take-le m source within) in
+    N.take-append-le (2 * n) written more (omega N.arith) ∙ N.ap (N.take (2 * n)) is
+    ∙ N.ap (λ j. N.take (2 * n) (N.encode_lower (N.take j source))) split ∙ hex-front n k source lies.within ∙ N.ap N.encode_lower lies.front
 
 -- bytes as hexadecimal digits may come in pieces
 pub joins_binary : N.JoinsPieces binary.IsFit binary.IsFit binary.rest binary.text

@@ -1,8 +1,9 @@
 -- Text in UTF-8 that is judged while it is converted, a run after the other.
 use Rattle.tds_text.proofs as N
-use N.{◌≡◌, ℕ, ◌+◌, ◌*◌, ◌<◌, ◌≤◌, List, [], ◌∷◌, ◌++◌, IsUtf8, arith, doubled, drop, get_or, length, take}
+use N.{◌≡◌, ◌∙◌, ◌↔◌, ℕ, ◌+◌, ◌-◌, ◌*◌, ◌<◌, ◌≤◌, List, [], ◌∷◌, ◌++◌, IsUtf8, arith, doubled, drop, get_or, length, take}
 use N.JoiningLemmas.{doubled-append}
-use Rattle.tds_text.specs.Utf8Scan.{Converts}
+use Rattle.tds_text.specs.Utf8.{Begins, rest, text}
+use Rattle.tds_text.specs.Utf8Scan.{Converts, ConvertsBegun, IsScan}
 
 -- the next two bytes, and the next three
 two_next : (xs : List ℕ) → 2 ≤ length xs → take 2 xs ≡ get_or xs 0 0 ∷ get_or xs 1 0 ∷ []
@@ -52,3 +53,62 @@ module _ (bytes : List ℕ) (at made : ℕ) {old new : List ℕ} (before : Conve
     whole = rw (N.take_more bytes at 0 within) (N.IsUtf8-append (take at bytes) (get_or bytes at 0 ∷ []) before.whole (N.Singles.one_utf8 _ ascii));
     text = N.Singles.one_taken doubled doubled-append bytes at within written before.text;
   }
+
+-- ---- what follows whole characters
+
+module _ (a b : List ℕ) (whole : IsUtf8 a) where
+  none_left : rest a ≡ []
+  none_left = grind (arith, N.utf8_valid_len-IsUtf8, N.drop_of_length-le)
+
+  whole_emits : N.emit rest text (a ++ b) ≡ text a ++ N.emit rest text b
+  whole_emits = grind (arith, N.Utf8Laws.emits, none_left, N.take_all)
+
+  whole_keeps : rest (a ++ b) ≡ rest b
+  whole_keeps = N.Utf8Laws.rest-append a b ∙ N.ap (λ l. rest (l ++ b)) none_left
+
+  whole_begins : Begins (a ++ b) ↔ Begins b
+  whole_begins = (λ h. rw none_left at (N.Utf8Laws.joins_utf8.inward a b h), λ h. N.Utf8Laws.joins_utf8.outward a b (rw none_left h))
+
+module _ {bytes to : List ℕ} (used made : ℕ) (x : Converts bytes to used made) where
+  -- all of it was converted
+  pub begun_whole : used ≡ length bytes → ConvertsBegun bytes to used made
+  begun_whole all = record {
+    begun = ([], grind (arith, N.take_all, N.append-nil, x.whole));
+    within = x.within;
+    left = omega arith;
+    short = omega (arith, x.room);
+    text = grind (arith, N.take_all, N.utf8_valid_len-IsUtf8, N.drop_of_length-le);
+    keeps = grind (arith, N.take_all, N.utf8_valid_len-IsUtf8, N.drop_of_length-le);
+  }
+
+-- what is left after some of the bytes
+pub rest_of : (bytes : List ℕ) (at : ℕ) → take (length bytes - at) (drop at bytes) ≡ drop at bytes
+rest_of bytes at = N.take_all (length bytes - at) (drop at bytes) (omega (arith, N.length-drop at bytes))
+
+module _ {bytes to : List ℕ} (used made : ℕ) (x : Converts bytes to used made) {whole good : ℕ} where
+  -- what follows begins no text
+  pub begun_none : IsScan (drop used bytes) whole good → good < length (drop used bytes) → Begins bytes → ⊥
+  begun_none scan less begun =
+      let stops = scan.stops less in
+      let tail = drop used bytes in
+      let inside : Begins tail = (whole_begins (take used bytes) tail x.whole).0 (rw (N.sym (N.take-append-drop used bytes)) at begun) in
+      stops.bad (N.Utf8Laws.joins_utf8.front (take (good + 1) tail) (drop (good + 1) tail) (rw N.take-append-drop inside))
+
+  -- what follows was converted too
+  pub begun_more : {new : List ℕ} {more : ℕ} → IsScan (drop used bytes) whole good
+      → N.emit rest text (drop used bytes) ≡ doubled (take whole (drop used bytes)) → length (drop used bytes) ≤ good
+      → more ≤ 2 * whole
+      → take (made + more) new ≡ take made to ++ doubled (take whole (drop used bytes)) → ConvertsBegun bytes new (used + whole) (made + more)
+  begun_more {more = more} scan emits all most written =
+      let tail = drop used bytes in
+      let split = N.take-append-drop used bytes in
+      let size = N.length-drop used bytes in
+      record {
+        begun = rw split at ((whole_begins (take used bytes) tail x.whole).1 (scan.begins (omega (arith, scan.most))));
+        within = omega (arith, scan.order, scan.most, x.within);
+        left = omega (arith, scan.short, x.within);
+        short = omega (arith, x.room, scan.order, scan.most, x.within);
+        text = written ∙ N.ap (λ l. l ++ doubled (take whole tail)) x.text ∙ N.ap (λ l. text (take used bytes) ++ l) (N.sym emits)
+            ∙ N.sym (whole_emits (take used bytes) tail x.whole) ∙ N.ap (N.emit rest text) split;
+        keeps = N.sym (N.drop-drop whole used bytes) ∙ scan.rest ∙ N.sym (whole_keeps (take used bytes) tail x.whole) ∙ N.ap rest split;
+      }

@@ -1,5 +1,6 @@
 -- Where bytes stop being the beginning of a text in UTF-8.
-use Rattle.std.specs.Prelude.{◌≡◌, ℕ, ◌+◌, ◌-◌, ◌*◌, ◌<◌, ◌≤◌, List, length, take, drop, IsUtf8}
+use Rattle.std.specs.Prelude.{◌≡◌, ℕ, ◌+◌, ◌-◌, ◌*◌, ◌<◌, ◌≤◌, List, length, take, drop, IsUtf8, Option, MatchOption}
+use Rattle.tds_values.specs.declared.span.Span.{Span}
 use Rattle.tds_text.specs.Joining.{emit}
 use Rattle.tds_text.specs.Quoting.{doubled}
 use Rattle.tds_text.specs.Utf8.{Begins, rest, text}
@@ -33,3 +34,16 @@ pub record Converts (bytes to : List ℕ) (used made : ℕ) : Type 0 where
   pub room : made ≤ 2 * used
   pub whole : IsUtf8 (take used bytes)
   pub text : take made to ≡ text (take used bytes)
+
+-- The bytes begin a text; so many are whole characters, whose text, of this length, is at the front of a room.
+pub record ConvertsBegun (bytes to : List ℕ) (used made : ℕ) : Type 0 where
+  pub begun : Begins bytes
+  pub within : used ≤ length bytes
+  pub left : length bytes ≤ used + 3
+  pub short : made ≤ 2 * length bytes
+  pub text : take made to ≡ emit rest text bytes
+  pub keeps : drop used bytes ≡ rest bytes
+
+-- So it is, or they begin none.
+abbrev pub BegunConverted : List ℕ → List ℕ → Option Span → Type 0
+BegunConverted bytes to result = MatchOption result (¬ (Begins bytes)) (λ done. ConvertsBegun bytes to done.used done.made)

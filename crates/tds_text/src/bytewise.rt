@@ -8,7 +8,7 @@ ghost use Rattle.tds_text.specs.Windows1252 as windows_1252;
 
 use crate::lanes::{LANES, PART, WIDE};
 use crate::lanes_hex::encode;
-use crate::{doubling, windows_1252};
+use crate::{doubling, lanes_hex, windows_1252};
 use tds_values::Span;
 
 /// A conversion in which each byte has a text of its own.
@@ -39,10 +39,8 @@ pub struct Hex;
 impl Bytewise for Hex {
     ghost text = { binary.text };
 
-    fn convert(bytes: &[u8], _source: &[u8], to: &mut [u8]) -> usize {
-        let made = 2 * bytes.len();
-        encode(bytes, &mut to[..made]);
-        made
+    fn convert(bytes: &[u8], source: &[u8], to: &mut [u8]) -> usize {
+        lanes_hex::convert(bytes, source, to)
     }
 
     fn convert_part(bytes: &[u8], to: &mut [u8]) -> Span {

@@ -6,16 +6,13 @@ ghost use Rattle.tds_text.specs.Plain.{LiesIn};
 ghost use Rattle.tds_text.specs.Quoting.{quote};
 
 use crate::framing::{BINARY_MARK, QUOTE};
-use crate::lanes::{LANES, WIDE};
+use crate::lanes::{LANES, MANY};
 use crate::lanes_hex::{encode, put_digits};
 use crate::{utf8, utf16, windows_1252};
 use std::simd::prelude::*;
 
 // How many bytes of room a field may want besides its text.
 const FIELD_SPARE: usize = 20;
-
-// How many bytes a text in Windows-1252 has at least that is written by a call; a shorter one is better off without.
-const MANY: usize = 2 * WIDE;
 
 /// What the data of a long value is.
 #[derive(Clone, Copy)]

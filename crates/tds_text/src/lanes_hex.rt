@@ -2,6 +2,7 @@
 ghost use Rattle.std.specs.Prelude.{◌≡◌, ◌+◌, ◌*◌, ◌≤◌, ◌++◌, length, take};
 ghost use Rattle.std.specs.Simd.Lanes.{chunk};
 ghost use Rattle.hex.specs.Hex.{encode_lower};
+ghost use Rattle.tds_text.specs.Plain.{LiesIn};
 
 use crate::lanes::{LANES, WIDE};
 use std::simd::prelude::*;
@@ -60,4 +61,23 @@ pub(crate) fn encode(bytes: &[u8], to: &mut [u8])
     let Ok(()) = hex::encode_to_slice(&bytes[at..], &mut to[2 * at..]) else {
         unreachable!()
     };
+}
+
+// Writes the digits of bytes to the front of a slice, and returns how many those are. What follows the bytes in the source may be
+// looked at, and more of the slice written to.
+#[inline(always)]
+pub(crate) fn convert(bytes: &[u8], source: &[u8], to: &mut [u8]) -> usize
+    requires source { LiesIn bytes.now source.now }
+    requires room { 3 * length bytes.now + LANES ≤ length to.old }
+    ensures made { result ≡ 2 * length bytes.now }
+    ensures digits { take result to.new ≡ encode_lower bytes.now }
+{
+    let made = 2 * bytes.len();
+    let whole = bytes.len().div_ceil(LANES) * LANES;
+    if whole <= source.len() && 2 * whole <= to.len() {
+        encode(&source[..whole], &mut to[..2 * whole]);
+        return made;
+    }
+    encode(bytes, &mut to[..made]);
+    made
 }

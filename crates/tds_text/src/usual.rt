@@ -1,5 +1,5 @@
 // Short text in UTF-8, judged while it is converted from one slice to another.
-ghost use Rattle.std.specs.Prelude.{◌≡◌, ◌+◌, ◌*◌, ◌<◌, ◌≤◌, ◌++◌, length, take, drop, IsUtf8, IfSome};
+ghost use Rattle.std.specs.Prelude.{◌≡◌, ◌+◌, ◌*◌, ◌<◌, ◌≤◌, ◌++◌, length, take, drop};
 ghost use Rattle.std.specs.Int.{is_in_range};
 ghost use Rattle.tds_text.specs.Joined.{is_lead};
 ghost use Rattle.tds_text.specs.Plain.{LiesAhead, LiesIn};
@@ -136,15 +136,13 @@ fn convert_beyond(
     Span { used: at, made }
 }
 
-// Writes the text of bytes, and returns its length. What follows them in the source may be looked at. `None` if they are no
-// text, if one of their characters is neither of ASCII nor such as `character_of_few` knows, or if too few bytes follow them.
+// Writes the text of the first bytes, as far as they are characters of ASCII or such as `character_of_few` knows, and enough bytes
+// follow them. What follows the bytes in the source may be looked at.
 #[inline(always)]
-pub(crate) fn convert(bytes: &[u8], source: &[u8], to: &mut [u8]) -> Option<usize>
+pub(crate) fn convert_front(bytes: &[u8], source: &[u8], to: &mut [u8]) -> Span
     requires source { LiesIn bytes.now source.now }
     requires room { 2 * length bytes.now + LANES ≤ length to.old }
-    ensures whole { IfSome result (λ _. IsUtf8 bytes.now) }
-    ensures short { IfSome result (λ made. made ≤ 2 * length bytes.now) }
-    ensures text { IfSome result (λ made. take made to.new ≡ doubled bytes.now) }
+    ensures { Converts bytes.now to.new result.used result.made }
 {
     let mut at = 0;
     let mut made = 0;
@@ -168,8 +166,5 @@ pub(crate) fn convert(bytes: &[u8], source: &[u8], to: &mut [u8]) -> Option<usiz
         made = put_doubled(to, made, bytes[at]);
         at += 1;
     }
-    if at < bytes.len() {
-        return None;
-    }
-    Some(made)
+    Span { used: at, made }
 }

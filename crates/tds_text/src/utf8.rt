@@ -6,10 +6,11 @@ ghost use Rattle.tds_text.specs.Joining.{emit};
 ghost use Rattle.tds_text.specs.Plain.{LiesIn};
 ghost use Rattle.tds_text.specs.Quoting.{doubled};
 ghost use Rattle.tds_text.specs.Utf8 as utf8;
-ghost use Rattle.tds_text.specs.Utf8Scan.{IsScan};
+ghost use Rattle.tds_text.specs.Utf8Scan.{BegunConverted, Converts, IsScan};
 
 use crate::lanes::LANES;
 use crate::{doubling, usual};
+use tds_values::Span;
 
 /// How many bytes a text has at least that is judged before it is converted: blocks of 64 are judged at once.
 const LONG: usize = 64;
@@ -54,6 +55,19 @@ pub fn scan_text(bytes: &[u8]) -> Scan
     }
 }
 
+// Writes the text of the first bytes, as far as it is of the usual characters, if there are few bytes.
+#[inline(always)]
+fn convert_front(bytes: &[u8], source: &[u8], to: &mut [u8]) -> Span
+    requires source { LiesIn bytes.now source.now }
+    requires room { 2 * length bytes.now + LANES ≤ length to.old }
+    ensures { Converts bytes.now to.new result.used result.made }
+{
+    if bytes.len() < LONG {
+        return usual::convert_front(bytes, source, to);
+    }
+    Span { used: 0, made: 0 }
+}
+
 // Writes the text of bytes, all of which are judged first, and returns its length. `None` if they are no text.
 #[inline(never)]
 fn convert_judged(bytes: &[u8], to: &mut [u8]) -> Option<usize>
@@ -76,10 +90,42 @@ pub(crate) fn convert_whole(bytes: &[u8], source: &[u8], to: &mut [u8]) -> Optio
     ensures short { IfSome result (λ made. made ≤ 2 * length bytes.now) }
     ensures text { IfSome result (λ made. take made to.new ≡ utf8.text bytes.now) }
 {
-    if bytes.len() < LONG {
-        if let Some(made) = usual::convert(bytes, source, to) {
-            return Some(made);
-        }
+    let front = convert_front(bytes, source, to);
+    if front.used == bytes.len() {
+        return Some(front.made);
     }
     convert_judged(bytes, to)
+}
+
+// Goes on with the text of the whole characters of bytes. `None` if they begin no text.
+#[inline(never)]
+fn convert_rest(bytes: &[u8], after: Span, to: &mut [u8]) -> Option<Span>
+    requires room { 2 * length bytes.now + LANES ≤ length to.old }
+    requires before { Converts bytes.now to.old after.used after.made }
+    ensures { BegunConverted bytes.now to.new result }
+{
+    let rest = &bytes[after.used..];
+    let scan = scan_text(rest);
+    if scan.good < rest.len() {
+        return None;
+    }
+    let made = doubling::convert(&rest[..scan.whole], &mut to[after.made..]);
+    Some(Span {
+        used: after.used + scan.whole,
+        made: after.made + made,
+    })
+}
+
+/// Writes the text of the whole characters of bytes, and says how many those have. `None` if the bytes begin no text. What follows
+/// them in the source may be looked at.
+pub fn convert_begun(bytes: &[u8], source: &[u8], to: &mut [u8]) -> Option<Span>
+    requires source { LiesIn bytes.now source.now }
+    requires room { 2 * length bytes.now + LANES ≤ length to.old }
+    ensures { BegunConverted bytes.now to.new result }
+{
+    let front = convert_front(bytes, source, to);
+    if front.used == bytes.len() {
+        return Some(front);
+    }
+    convert_rest(bytes, front, to)
 }

@@ -5,7 +5,7 @@ ghost use Rattle.tds_text.specs.Plain.{LiesIn};
 ghost use Rattle.tds_text.specs.Windows1252 as windows_1252;
 
 use crate::encode::{put_doubled, take_before, take_plain};
-use crate::lanes::{BY_HAND, LANES, PART, WIDE, wide_stops};
+use crate::lanes::{BY_HAND, LANES, MANY, PART, WIDE, wide_stops};
 use tds_values::Span;
 
 // The characters of the bytes 80 to FF in UTF-8, the first byte the lowest, with their number in the highest.
@@ -150,13 +150,13 @@ pub(crate) fn convert_wide(bytes: &[u8], to: &mut [u8]) -> Span
     Span { used: at, made }
 }
 
-// Writes the text of the bytes, as long as 32 of them are left. It makes no call for fewer.
+// Writes the text of the bytes, as long as 32 of them are left. It makes no call for fewer than 64.
 #[inline(always)]
 fn convert_front(bytes: &[u8], to: &mut [u8]) -> Span
     ensures within { result.used ≤ length bytes.now }
     ensures text { windows_1252.Converts bytes.now to.new result.used result.made }
 {
-    if bytes.len() < WIDE {
+    if bytes.len() < MANY {
         return Span { used: 0, made: 0 };
     }
     convert_wide(bytes, to)

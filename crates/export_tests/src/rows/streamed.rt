@@ -112,6 +112,10 @@ impl<J: Joiner, C: Count> Joiner for CountingJoiner<J, C> {
         self.inner.push(piece, sink)
     }
 
+    fn write(&mut self, piece: &[u8], source: &[u8], to: &mut [u8]) -> Option<usize> {
+        self.inner.write(piece, source, to)
+    }
+
     fn end<W: Write>(&mut self, sink: &mut Sink<'_, W>) -> Result<(), JoinFault> {
         self.inner.end(sink)
     }

@@ -41,6 +41,11 @@ impl<C: Bytewise, const IN_QUOTES: bool> Joiner for BytewiseJoiner<C, IN_QUOTES>
         Ok(())
     }
 
+    fn write(&mut self, piece: &[u8], source: &[u8], to: &mut [u8]) -> Option<usize> {
+        C::laws();
+        Some(C::convert(piece, source, to))
+    }
+
     fn end<W: Write>(&mut self, sink: &mut Sink<'_, W>) -> Result<(), JoinFault> {
         C::laws();
         Ok(sink.check()?)

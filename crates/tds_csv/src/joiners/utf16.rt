@@ -172,6 +172,15 @@ impl Joiner for Utf16Joiner {
         self.push_long(piece, sink)
     }
 
+    fn write(&mut self, piece: &[u8], source: &[u8], to: &mut [u8]) -> Option<usize> {
+        if !self.kept.bytes().is_empty() {
+            return None;
+        }
+        let done = convert(piece, source, to);
+        self.kept.set(&piece[done.used..]);
+        Some(done.made)
+    }
+
     fn end<W: Write>(&mut self, sink: &mut Sink<'_, W>) -> Result<(), JoinFault> {
         sink.check()?;
         if self.kept.bytes().len() % 2 == 1 {

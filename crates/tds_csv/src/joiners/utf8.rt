@@ -13,7 +13,7 @@ use crate::sink::Sink;
 use std::io::Write;
 use tds_packet::Stop;
 use tds_text::QuoteEscaped;
-use tds_text::utf8::{Scan, scan_text};
+use tds_text::utf8::{Scan, convert_begun, scan_text};
 
 /// Text in UTF-8.
 #[derive(Drop)]
@@ -115,6 +115,15 @@ impl Joiner for Utf8Joiner {
             return self.push_short(piece, sink);
         }
         self.push_long(piece, sink)
+    }
+
+    fn write(&mut self, piece: &[u8], source: &[u8], to: &mut [u8]) -> Option<usize> {
+        if !self.kept.bytes().is_empty() {
+            return None;
+        }
+        let done = convert_begun(piece, source, to)?;
+        self.kept.set(&piece[done.used..]);
+        Some(done.made)
     }
 
     fn end<W: Write>(&mut self, sink: &mut Sink<'_, W>) -> Result<(), JoinFault> {

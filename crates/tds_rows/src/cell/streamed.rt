@@ -1,18 +1,19 @@
 // A long value that passes through in pieces, by a joiner (MS-TDS, Data Stream Types).
-ghost use Rattle.std.specs.Prelude.{◌≡◌, ◌<◌, ◌≤◌, ◌+◌, ◌^◌, ◌++◌, ℕ, List, IfOk, [], false, None};
+ghost use Rattle.std.specs.Prelude.{◌≡◌, ◌<◌, ◌≤◌, ◌+◌, ◌^◌, ◌++◌, ℕ, List, IfOk, Ok, [], false, None, take};
 ghost use Rattle.tds_text.specs.Conversion.{BeginsData, Conversion, Suits, closing, conversion_rest};
 ghost use Rattle.tds_text.specs.Quoting.{after_comma, end_after};
 ghost use Rattle.tds_csv.specs.Sinks.{IsReady, IsWriting, LeavesSink, PutsPiece};
 ghost use Rattle.tds_packet.specs.Payloads.{IsSound, LeavesPayload};
 ghost use Rattle.tds_rows.specs.Blames.{Blames, failures_of};
 ghost use Rattle.tds_rows.specs.LongCells.{DataTaken, EndPut, PieceTaken, good_of, join_stop, opening};
-ghost use Rattle.tds_rows.specs.LongReading.{AwaitsValue, BlamesDevices, IsJoining, IsOnSameValue, LeavesValue, ValuePut};
+ghost use Rattle.tds_rows.specs.LongReading.{AwaitsValue, BlamesDevices, ChunksTaken, IsJoining, IsOnSameValue, LeavesValue, ValuePut};
 ghost use Rattle.tds_cells.specs.Cells.{Cell, ChunkLength, LongShape, ShortLength, SpellsCell, long_start};
 ghost use Rattle.tds_rows.specs.CellSteps.{FieldPut};
 ghost use Rattle.tds_rows.specs.RowSteps.{StopsAgain};
 ghost use Rattle.tds_rows.specs.Successes.{SucceedsOn};
 ghost use Rattle.tds_values.specs.declared.kind.Kind.{Kind};
 
+use crate::cell::chunk_runs::{LONGEST_CHUNK, next_chunk, write_chunks};
 use crate::cell::lengths::{read_chunk_length, read_short_length, read_total};
 use crate::cell::null::put_null;
 use crate::reading::earlier_stop;
@@ -40,12 +41,26 @@ fn join_stop(fault: JoinFault, column: u16, place: u64) -> Stop
     Stop::in_payload(Fault::BadText { column }, place + good)
 }
 
+// Puts the first `made` of four bytes.
+fn put_few<W: Write>(text: [u8; 4], made: usize, sink: &mut Sink<W>) -> Result<(), Stop>
+    requires writing { IsWriting sink.old }
+    requires few { made ≤ 4 }
+    ensures { PutsPiece W.contents sink.old sink.new (take made text) result }
+{
+    if sink.room() < 4 {
+        return sink.put(&text[..made]);
+    }
+    let waiting = sink.waiting() as usize;
+    sink.spare(4).copy_from_slice(&text);
+    sink.keep(waiting, made)
+}
+
 // Puts the comma before a long value, and what comes before its text.
 fn put_opening<W: Write>(column: u16, quoted: bool, sink: &mut Sink<W>) -> Result<(), Stop>
-    requires { IsReady sink.old }
+    requires { IsWriting sink.old }
     ensures { PutsPiece W.contents sink.old sink.new (after_comma column (opening quoted)) result }
 {
-    let mut text = [0u8; 3];
+    let mut text = [0u8; 4];
     let start = write_comma(column, &mut text);
     let made = if quoted {
         text[start] = QUOTE;
@@ -55,17 +70,17 @@ fn put_opening<W: Write>(column: u16, quoted: bool, sink: &mut Sink<W>) -> Resul
         text[start + 1] = BINARY_MARK[1];
         start + 2
     };
-    sink.put(&text[..made])
+    put_few(text, made, sink)
 }
 
 // Puts what comes after the text of a long value, and the end of the line if it is the last.
 fn put_closing<W: Write>(quoted: bool, last: bool, sink: &mut Sink<W>) -> Result<(), Stop>
-    requires { IsReady sink.old }
+    requires { IsWriting sink.old }
     ensures { PutsPiece W.contents sink.old sink.new (closing quoted ++ end_after last) result }
 {
-    let mut text = [QUOTE, 0, 0];
+    let mut text = [QUOTE, 0, 0, 0];
     let made = write_line_end(last, usize::from(quoted), &mut text);
-    sink.put(&text[..made])
+    put_few(text, made, sink)
 }
 
 // A long value that is being read, and the joiner that makes its text.
@@ -162,6 +177,31 @@ impl<'r, 'p, 'j, 'w, 's, J: Joiner, R: Read, W: Write> LongValue<'r, 'p, 'j, 'w,
         self.put_end(last_byte)
     }
 
+    // Takes the chunks after `sum` bytes of data that lie whole in the packet and have room in the block, and puts their text.
+    // Returns how many bytes of data they have. It reads nothing and delivers nothing.
+    fn take_chunks(&mut self, total: Option<u64>, sum: u64) -> u64
+        requires joining { IsJoining J.begins J.withheld self.old }
+        requires few { sum ≤ self.old.payload.now.place }
+        ensures leaves { LeavesValue self.old self.new (Ok result) }
+        ensures begun { J.begins (J.withheld self.new.joiner.now) }
+        ensures few { self.old.payload.now.place + result ≤ self.new.payload.now.place }
+        ensures calm { failures_of self.new.payload.now self.new.sink.now ≡
+            failures_of self.old.payload.now self.old.sink.now }
+        ensures chunks { ChunksTaken J.fit J.begins J.rest J.text J.UNIT J.QUOTED J.withheld R.remaining W.contents total sum
+            self.old self.new result }
+    {
+        let bytes = self.payload.buffered();
+        if next_chunk(bytes, 0, total, sum) == 0 {
+            return 0;
+        }
+        let waiting = self.sink.waiting() as usize;
+        let room = self.sink.room();
+        let run = write_chunks(self.joiner, bytes, total, sum, self.sink.spare(room - 1));
+        self.payload.consume(run.span.used);
+        self.sink.commit(waiting, run.span.made);
+        run.data
+    }
+
     // Reads the chunks and the terminator after a total, and puts the text of the data and its end.
     fn chunks(&mut self, total: Option<u64>) -> Result<(), Stop>
         requires { AwaitsValue J.begins (J.withheld self.old.joiner.now) J.UNIT self.old.payload.now self.old.sink.now }
@@ -170,7 +210,7 @@ impl<'r, 'p, 'j, 'w, 's, J: Joiner, R: Read, W: Write> LongValue<'r, 'p, 'j, 'w,
         ensures field { (c : Conversion) → Suits J.fit J.begins J.rest J.text J.UNIT J.QUOTED c →
             ValuePut R.remaining W.contents (ChunkLength c total []) self.old self.new result }
     {
-        let mut sum = 0u64;
+        let mut sum = self.take_chunks(total, 0);
         loop {
             let place = self.payload.place();
             let n = read_chunk_length(self.payload, self.column, J::UNIT, total, sum)?;
@@ -179,6 +219,10 @@ impl<'r, 'p, 'j, 'w, 's, J: Joiner, R: Read, W: Write> LongValue<'r, 'p, 'j, 'w,
             }
             self.push_data(n)?;
             sum += n;
+            if n > LONGEST_CHUNK {
+                continue;
+            }
+            sum += self.take_chunks(total, sum);
         }
     }
 

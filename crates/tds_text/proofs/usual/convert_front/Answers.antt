@@ -1,5 +1,5 @@
 use Rattle.tds_text.proofs as N
-use N.usual.convert.Goals as goal
+use N.usual.convert_front.Goals as goal
 use N.{◌+◌}
 use N.UsualText.{added_one, added_plain}
 

@@ -1,5 +1,5 @@
 use Rattle.tds_text.proofs as N
-use N.usual.convert.Given as goal
+use N.usual.convert_front.Given as goal
 use N.{◌*◌, ◌+◌, ◌-◌, ◌≤◌, length}
 use Rattle.tds_text.specs.Utf8Scan.{Converts}
 

@@ -1,0 +1,28 @@
+use Rattle.tds_rows.proofs.cell.chunk_runs.write_chunks.Goals as goal
+use Rattle.tds_rows.proofs.Words.{◌*◌, ◌≤◌, arith, length, rules}
+use Rattle.tds_rows.proofs.ChunkRuns.{added_most, chunk_step, chunks_none}
+
+pub loop-total-init : goal.loop-total-init
+loop-total-init g c = record {
+  begun = c.requires.begun;
+  used = omega arith;
+  room = omega arith;
+  few = omega arith;
+  chunks = λ conversion suits content is begun counted column last. chunks_none conversion column last c.args.total is begun;
+}
+
+pub loop-total-preserved : goal.loop-total-preserved
+loop-total-preserved g c =
+    let l = c.loop-total in
+    let w = c.in-Some.ensures in
+    let chunk = c.next_chunk-n.ensures.chunk (search rules) in
+    let fits : 3 * c.next_chunk-n.result ≤ length c.write.new.to = omega arith in
+    record {
+      begun = w.begun;
+      used = omega (arith, chunk.whole);
+      room = omega (arith, added_most c.next_chunk-n.result _ w.written);
+      few = omega (arith, l.invariant.few);
+      chunks = λ conversion suits content is begun counted column last.
+          chunk_step suits column last l.to _ counted (l.invariant.chunks conversion suits content is begun counted column last) chunk w.written
+          l.invariant.room fits;
+    }

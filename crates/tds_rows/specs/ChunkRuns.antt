@@ -1,0 +1,30 @@
+-- Chunks of a long value whose bytes lie together.
+use Rattle.std.specs.Prelude.{◌≡◌, ℕ, ◌+◌, ◌<◌, ◌≤◌, Bool, true, List, ◌++◌, length, take, drop, Option}
+use Rattle.tds_values.specs.Numbers.{little}
+use Rattle.tds_text.specs.Conversion.{BeginsData, Conversion, Suits, conversion_rest}
+use Rattle.tds_cells.specs.Cells.{ChunkLength, cell, within_total}
+use Rattle.tds_cells.specs.CellTexts.{cell_so_far}
+use Rattle.tds_cells.specs.Runs.{Writes}
+
+-- At a place of the bytes a chunk of this many bytes lies whole, which is neither the terminator nor passes the total after so many bytes of data.
+pub record HasChunk (bytes : List ℕ) (at : ℕ) (total : Option ℕ) (sum n : ℕ) : Type 0 where
+  pub some : 0 < n
+  pub whole : at + 4 + n ≤ length bytes
+  pub number : little (take 4 (drop at bytes)) ≡ n
+  pub fits : within_total total (sum + n) ≡ true
+
+-- After some content these bytes are chunks of so many bytes of data, and this is their text; what is withheld then is the rest of all the data.
+pub record ChunksWritten (c : Conversion) (column : ℕ) (last : Bool) (total : Option ℕ) (content kept : List ℕ) (n : ℕ) (bytes text : List ℕ) : Type 0
+  where
+    pub more : List ℕ
+    pub counted : length more ≡ n
+    pub begun : BeginsData c (content ++ more)
+    pub kept_is : kept ≡ conversion_rest c (content ++ more)
+    pub writes : Writes (cell column) (cell_so_far column last) (ChunkLength c total content) bytes text (ChunkLength c total (content ++ more))
+
+-- So they are after any content of so many bytes of which so many bytes are withheld, whatever conversion it is that has these words.
+abbrev pub RunsChunks : (List ℕ → Type 0) → (List ℕ → Type 0) → (List ℕ → List ℕ) → (List ℕ → List ℕ) → ℕ → Bool → List ℕ → List ℕ → Option ℕ → ℕ
+    → ℕ → List ℕ → List ℕ → Type 0
+RunsChunks fit begins rest text unit quoted old new total sum n bytes made = (c : Conversion) → Suits fit begins rest text unit quoted c →
+    (content : List ℕ) → old ≡ conversion_rest c content → BeginsData c content → length content ≡ sum →
+    (column : ℕ) (last : Bool) → ChunksWritten c column last total content new n bytes made
