@@ -1,6 +1,6 @@
 -- What a cell's spelling is read as.
 use Rattle.tds_cells.proofs as N
-use N.{◌≡◌, ◌⊎◌, ℕ, ◌+◌, ◌-◌, ◌/◌, ◌%◌, ◌<◌, ◌≤◌, true, List, [], ◌∷◌, ◌++◌, length, refl, ◌∙◌, ap, arith, Ok, Option, Some, ◌==◌, ◌||◌, if◌then◌else◌}
+use N.{◌≡◌, ◌⊎◌, ℕ, ◌+◌, ◌-◌, ◌/◌, ◌%◌, ◌^◌, ◌<◌, ◌≤◌, true, List, [], ◌∷◌, ◌++◌, length, refl, ◌∙◌, ap, arith, Ok, Option, Some, ◌==◌, ◌||◌, if◌then◌else◌}
 use N.{concat, Kind, little, Conversion, unit, is_fit, Spelt, Spelt-step, Spelt-append, Null, DataCell, Total, WholeCell, cell}
 
 -- a fixed shape has bytes
@@ -11,7 +11,7 @@ HasBytes s = Unit {0}
 pub unless_true : {b : N.Bool} (f : N.Fault) → b ≡ true → N.unless b f ≡ N.None
 unless_true f h = rw h
 
-is_known : {n : ℕ} → n < N.unknown_total → N.known_total n ≡ Some n
+is_known : {n : ℕ} → n < 2 ^ 64 - 2 → N.known_total n ≡ Some n
 is_known h = grind arith
 
 within_known : {t n : ℕ} → n ≤ t → N.within_total (Some t) n ≡ true
@@ -51,14 +51,14 @@ module _ (column : ℕ) where
       Spelt-step _ _ _ _ (omega arith) refl (grind arith)
       (grind arith)
 
-  short_cell : (c : Conversion) (d bytes : List ℕ) → is_fit c d ≡ true → N.SpellsShort d bytes
+  short_cell : (c : Conversion) (d bytes : List ℕ) → is_fit c d ≡ true → length d < 65535 → bytes ≡ (length d % 256 ∷ length d / 256 ∷ []) ++ d
       → Spelt (cell column) (N.ShortLength c) bytes (WholeCell (DataCell c d))
-  short_cell c [] bytes h s = rw s.counted (short_length c 0 (omega arith) (grind arith))
-  short_cell c (x ∷ xs) _ h s =
+  short_cell c [] bytes h least counted = rw counted (short_length c 0 (omega arith) (grind arith))
+  short_cell c (x ∷ xs) _ h least counted =
       let to = N.choose_false _ _ _ (N.ne_eqb (length (x ∷ xs)) 0 (λ q. omega arith)) ∙ ap (λ k. N.ShortData c k []) (omega arith) in
       let head = N.subst (λ v. Spelt (cell column) (N.ShortLength c) (length (x ∷ xs) % 256 ∷ length (x ∷ xs) / 256 ∷ []) v) to
-      (short_length c _ s.least (N.fit_units c _ h)) in
-      rw s.counted (Spelt-append _ _ _ _ _ _ head (short_data c [] x xs h))
+      (short_length c _ least (N.fit_units c _ h)) in
+      rw counted (Spelt-append _ _ _ _ _ _ head (short_data c [] x xs h))
 
   chunk_data : (c : Conversion) (total : Option ℕ) (d : List ℕ) (x : ℕ) (xs more : List ℕ) → is_fit c ((d ++ x ∷ xs) ++ more) ≡ true
       → Spelt (cell column) (N.ChunkData c total (length xs) d) (x ∷ xs) (N.ChunkLength c total (d ++ x ∷ xs))
@@ -97,8 +97,8 @@ module _ (column : ℕ) where
       let more = rw a at (chunks_cell c total (d ++ x) xs s.1 (rw a w) (rw a t) (rw a f) s.4) in
       rw s.2 (Spelt-append _ _ s.0 _ s.1 _ one more)
 
-  total_cell : (c : Conversion) (total : List ℕ) → length total ≡ 8 → little total < N.null_total
-      → (N.nat_le N.unknown_total (little total) || (little total % unit c == 0)) ≡ true
+  total_cell : (c : Conversion) (total : List ℕ) → length total ≡ 8 → little total < 2 ^ 64 - 1
+      → (N.nat_le (2 ^ 64 - 2) (little total) || (little total % unit c == 0)) ≡ true
       → Spelt (cell column) (Total c) total (N.ChunkLength c (N.known_total (little total)) [])
   total_cell c total eight less even = Spelt-step _ _ _ _ (omega arith) eight
       (unless_true _ even) (grind arith)
@@ -107,14 +107,14 @@ module _ (column : ℕ) where
       → Spelt (cell column) (Total c) bytes (WholeCell (DataCell c d))
   chunked_cell {c} {d} f s = rw s.spelt (go s.known)
     where
-      from : (t : Option ℕ) → N.known_total (little s.total) ≡ t → little s.total < N.null_total
-          → (N.nat_le N.unknown_total (little s.total) || (little s.total % unit c == 0)) ≡ true → ((n : ℕ) → n ≤ length d → N.within_total t n ≡ true)
+      from : (t : Option ℕ) → N.known_total (little s.total) ≡ t → little s.total < 2 ^ 64 - 1
+          → (N.nat_le (2 ^ 64 - 2) (little s.total) || (little s.total % unit c == 0)) ≡ true → ((n : ℕ) → n ≤ length d → N.within_total t n ≡ true)
           → N.is_total t (length d) ≡ true → Spelt (cell column) (Total c) (s.total ++ s.rest) (WholeCell (DataCell c d))
       from t known less even within whole =
           let more = rw s.all at (chunks_cell c t [] s.chunks s.rest (rw s.all within) (rw s.all whole) (rw s.all f) s.each) in
           Spelt-append _ _ s.total _ s.rest _ (grind (arith, total_cell)) more
 
-      go : (little s.total ≡ N.unknown_total) ⊎ ((little s.total ≡ length d) × (length d < N.unknown_total))
+      go : (little s.total ≡ 2 ^ 64 - 2) ⊎ ((little s.total ≡ length d) × (length d < 2 ^ 64 - 2))
           → Spelt (cell column) (Total c) (s.total ++ s.rest) (WholeCell (DataCell c d))
       go (N.inl u) = from N.None (ap N.known_total u) (omega arith) (rw u) (λ n h. refl) refl
       go (N.inr k) =

@@ -1,6 +1,6 @@
 -- What the bytes that lead to a part of a cell spell.
 use Rattle.tds_cells.proofs as N
-use N.{◌≡◌, ℕ, ◌+◌, ◌/◌, ◌%◌, ◌^◌, ◌<◌, true, List, [], ◌∷◌, ◌++◌, length, refl, ◌∙◌, ap, append_assoc, arith, Ok, Option, None, ◌&&◌, ◌||◌, if◌then◌else◌}
+use N.{◌≡◌, ℕ, ◌+◌, ◌-◌, ◌/◌, ◌%◌, ◌^◌, ◌<◌, true, List, [], ◌∷◌, ◌++◌, length, refl, ◌∙◌, ap, append_assoc, arith, Ok, Option, None, ◌&&◌, ◌||◌, if◌then◌else◌}
 use N.{Kind, Short, Chunked, little, AreBytes, Shape, LongShape, cell_add}
 
 -- a test that gave no fault passed
@@ -10,7 +10,7 @@ unless_none b f h = grind arith
 eight_below : (e : List ℕ) → length e ≡ 8 → AreBytes e → little e < 2 ^ 64
 eight_below e l k = grind (arith, N.common_steps)
 
-pub eight_ones : (e : List ℕ) → length e ≡ 8 → AreBytes e → little e ≡ N.null_total → e ≡ N.replicate 8 255
+pub eight_ones : (e : List ℕ) → length e ≡ 8 → AreBytes e → little e ≡ 2 ^ 64 - 1 → e ≡ N.replicate 8 255
 eight_ones (a ∷ b ∷ c ∷ d ∷ e ∷ f ∷ g ∷ h ∷ []) l k n = grind arith
 eight_ones e l k n = cc
 
@@ -47,7 +47,7 @@ pub record ChunksMean (total : Option ℕ) (content bytes : List ℕ) : Type 0 w
   pub spelt : bytes ≡ first ++ rest
   pub eight : length first ≡ 8
   pub total_is : total ≡ N.known_total (little first)
-  pub below : little first < N.null_total
+  pub below : little first < 2 ^ 64 - 1
   pub begun : BeginsChunks chunks rest
   pub all : N.concat chunks ≡ content
 
@@ -94,7 +94,7 @@ module _ (column : ℕ) (kind : Kind) where
   short_means c _ x count less is free = grind (arith, N.length-append)
 
   chunk_means : (c : N.Conversion) (total : Option ℕ) (d b e : List ℕ) → length e ≡ 4 → ChunksMean total d b
-      → N.chunk_fault column c total d (little e) ≡ None → CellMeans kind (LongShape c Chunked) (cell_add (N.ChunkLength c total d) e) (b ++ e)
+      → N.cell_fault column (N.ChunkLength c total d) e ≡ None → CellMeans kind (LongShape c Chunked) (cell_add (N.ChunkLength c total d) e) (b ++ e)
   chunk_means c total d b e four m free =
       N.choose (λ p. CellMeans kind (LongShape c Chunked) p (b ++ e)) _ _ _ (λ z.
       let end = N.sym (ap (λ t. (if t then N.end_of_chunks column c total d else N.unless (N.within_total total (length d + little e)) (N.PlpLength column))) z)

@@ -1,6 +1,6 @@
 -- Cells of values in one chunk at most whose bytes lie together.
 use Rattle.tds_cells.proofs as N
-use N.{◌≡◌, ◌∙◌, ◌==◌, ◌-◌, ℕ, ◌+◌, ◌<◌, ◌≤◌, [], ◌∷◌, ◌++◌, List, length, take, drop, zero, suc, refl, sym, ap, arith, common_steps, SpellsChunked}
+use N.{◌≡◌, ◌∙◌, ◌==◌, ◌-◌, ◌^◌, ℕ, ◌+◌, ◌<◌, ◌≤◌, [], ◌∷◌, ◌++◌, List, length, take, drop, zero, suc, refl, sym, ap, arith, common_steps, SpellsChunked}
 use N.{HasOneChunk}
 use N.CellLaws.{cell_is_read}
 use Rattle.byteorder.specs.Endian.{little_number}
@@ -74,7 +74,7 @@ module _ (bytes : List ℕ) where
       (λ z. one_chunk n (omega (arith, N.eq_false n 0 z)) x)
 
 module _ (column : ℕ) (c : N.Conversion) (last : N.Bool) (bytes text : List ℕ) where
-  pub chunked_null : ((i : ℕ) → N.slice_index bytes i < 256) → 8 ≤ length bytes → little_number 8 bytes ≡ N.null_total
+  pub chunked_null : ((i : ℕ) → N.slice_index bytes i < 256) → 8 ≤ length bytes → little_number 8 bytes ≡ 2 ^ 64 - 1
       → text ≡ N.in_line column last N.null_field → N.WritesWhole (N.Total c) column last (take 8 bytes) text
   chunked_null low within all is =
       let total = eight_at_front bytes within in

@@ -97,7 +97,7 @@ far_more {row_format = row_format} {walk = walk} {bytes = bytes} {old = old} {ro
     let after = place_known row_format (place walk cells) cells (cells + 1) all (omega (arith, some)) (omega (arith, some)) columns knows ahead in
     let taken = takes next N.refl after in
     let end_is = last_is ∙ last_one columns (drop (cells + 1) columns) taken.column cells row_format.count knows.counted taken.next in
-    rw (left, text.1.1) (runs_column taken end_is (wrote cells last).whole)) x)
+    rw (left, text.1.1) (runs_column taken end_is N.refl (wrote cells last).whole)) x)
 
 -- ---- a run that keeps what is left of the bytes
 

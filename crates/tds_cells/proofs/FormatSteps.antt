@@ -10,7 +10,12 @@ use Rattle.std.proofs.lemmas.List.{drop-append-le, drop-set-add, take-set-le}
 not_last : (rest : List Column) → 0 < length rest → false ≡ N.is_last_column rest
 not_last _ some = grind arith
 
-module _ (formats : List CellFormat) (ends : Bool) (columns : List Column) (next : N.AreNext formats ends columns) where
+-- The formats are those of the next columns, which are the row's last if the formats end it.
+pub record AreNext (formats : List CellFormat) (ends : Bool) (columns : List Column) : Type 0 where
+  pub kinds_are : N.map (λ f. f.kind) formats ≡ N.map (λ c. c.kind) (take (length formats) columns)
+  pub ends_are : ends ≡ (length formats == length columns)
+
+module _ (formats : List CellFormat) (ends : Bool) (columns : List Column) (next : AreNext formats ends columns) where
   few : length formats ≤ length columns
   few = grind (arith, N.length-map, N.length-take)
 
@@ -48,7 +53,7 @@ pub some_first : (formats : List CellFormat) → 0 < length formats → (format 
 some_first [] some = grind arith
 some_first (f ∷ fs) _ = (f, fs, refl)
 
-module _ (charset : Charset) (formats : List CellFormat) (column : ℕ) (ends : Bool) (columns : List Column) (next : N.AreNext formats ends
+module _ (charset : Charset) (formats : List CellFormat) (column : ℕ) (ends : Bool) (columns : List Column) (next : AreNext formats ends
     (drop column columns))
   where
     -- whether so many cells end their row
@@ -295,7 +300,9 @@ fields_run {charset = charset} {formats = formats} {column = column} {ends = end
     record {
       within = omega arith;
       ends = grind arith;
-      cells = grind (arith, run_marked);
+      cells = λ columns kinds_are ends_are.
+          let next : AreNext formats ends (drop column columns) = record { kinds_are = kinds_are; ends_are = ends_are } in
+          grind (arith, run_marked);
     }
 
 -- its field, of at most 11, and the comma after it leave room for those of the others
@@ -305,10 +312,7 @@ room_step n k _ m _ _ same some few within = omega arith
 
 shape_less : (s : N.Shape) (bytes : List ℕ) {fewer room : ℕ} → fewer ≤ room → N.IsLongLeft s bytes room → N.IsLongLeft s bytes fewer
 shape_less (N.LongShape c N.Short) _ less left = grind arith
-shape_less (N.LongShape c N.Chunked) _ less left = record {
-  some = left.some;
-  one = grind arith;
-}
+shape_less (N.LongShape c N.Chunked) _ less left = (left.0, grind arith)
 shape_less N.CountedShape _ less left = left
 shape_less (N.FixedShape n) _ less left = left
 

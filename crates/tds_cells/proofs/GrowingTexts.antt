@@ -55,9 +55,9 @@ pub last_fit : (left : ℕ) (b : Bool) → (N.nat_lt 0 left || b) ≡ true → (
 last_fit _ b h z = grind arith
 
 -- what ends the chunks leaves the data fit
-pub end_fit : (column : ℕ) (c : N.Conversion) (total : Option ℕ) (content : List ℕ) (n : ℕ) → N.chunk_fault column c total content n ≡ None
-    → (n == 0) ≡ true → N.is_fit c content ≡ true
-end_fit _ c _ _ n h z = grind arith
+pub end_fit : (column : ℕ) (c : N.Conversion) (total : Option ℕ) (content e : List ℕ) → N.cell_fault column (N.ChunkLength c total content) e ≡ None
+    → (N.little e == 0) ≡ true → N.is_fit c content ≡ true
+end_fit _ c _ _ e h z = grind arith
 
 module _ (column : ℕ) where
   -- each element of a cell adds to its text

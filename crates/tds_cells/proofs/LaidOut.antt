@@ -1,6 +1,6 @@
 -- Cells by how their values are laid out.
 use Rattle.tds_cells.proofs as N
-use N.{◌&&◌, ◌≡◌, ℕ, ◌<◌, true, List, length, arith, Kind, CellFormat, Layout, Each}
+use N.{◌&&◌, ◌≡◌, ℕ, ◌+◌, ◌<◌, true, List, length, arith, Kind, CellFormat, Layout, Each}
 use Rattle.tds_cells.specs.LongFields.{LongWritten}
 use Rattle.tds_cells.specs.CellTexts.{CellWritten}
 use Rattle.tds_values.specs.declared.kind.Reach.{Reach}
@@ -47,7 +47,7 @@ module _ (charset : N.Charset) (kind : Kind) where
   -- ---- a cell that is left, and a short value
 
   -- how many bytes its cell has
-  pub short_whole : (content : N.Content) (bytes : List ℕ) → N.IsLaidOut charset kind (ShortLayout content) → N.short_size bytes ≡ N.whole_size kind bytes
+  pub short_whole : (content : N.Content) (bytes : List ℕ) → N.IsLaidOut charset kind (ShortLayout content) → 2 + N.data_length bytes ≡ N.whole_size kind bytes
   short_whole _ _ laid = grind arith
 
 -- a long value was written, and so the cell of a kind that is one

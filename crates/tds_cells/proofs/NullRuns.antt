@@ -1,6 +1,6 @@
 -- NULLs by their bits, in columns after one another.
 use Rattle.tds_cells.proofs as N
-use N.{◌≡◌, ◌∙◌, ◌==◌, ℕ, ◌+◌, ◌*◌, ◌-◌, ◌≤◌, ◌<◌, Bool, List, [], ◌++◌, zero, suc, length, take, refl, ap, arith, WritesNulls, Column}
+use N.{◌≡◌, ◌∙◌, ◌==◌, ℕ, ◌+◌, ◌*◌, ◌-◌, ◌≤◌, ◌<◌, Bool, List, [], ◌++◌, zero, suc, length, take, refl, ap, arith, Column}
 
 -- a column that is NULL by its bit
 null_column : (charset : N.Charset) (columns : List Column) (nulls : ℕ → Bool) (k : ℕ) → k < length columns → nulls k ≡ N.true
@@ -10,7 +10,7 @@ null_column _ columns nulls k within null =
     let column = N.get_or columns k c in
     let next = N.drop_more columns k c within in
     let last = N.RowFormatSteps.last_one columns (N.drop (k + 1) columns) column k (length columns) refl next in
-    record { column = column; left = N.drop (k + 1) columns; next = next; writes = grind arith }
+    record { column = column; left = N.drop (k + 1) columns; next = next; null = grind arith; cell = λ isnt. absurd (cc) }
 
 -- the text of so many, none of which is the first or the last of its row
 abbrev pub nulls_text : ℕ → List ℕ
@@ -61,11 +61,8 @@ nulls_inside nulls from (suc n) count some within set charset columns counted =
     )
 
 -- the next column alone
-pub null_alone : (nulls : ℕ → Bool) (at count : ℕ) → at < count → nulls at ≡ N.true → WritesNulls nulls at count 1 (N.in_line at (at + 1 == count) N.null_field)
-null_alone nulls at count within null = record {
-  some = omega arith;
-  within = omega arith;
-  writes = λ charset columns counted.
-      let one = rw counted at (null_column charset columns nulls at (omega arith) null) in
-      (grind (arith, N.add-zero));
-}
+pub null_alone : (nulls : ℕ → Bool) (at count : ℕ) → at < count → nulls at ≡ N.true → (charset : N.Charset) (columns : List Column)
+    → length columns ≡ count → N.WritesMarked charset columns nulls at 1 [] (N.in_line at (at + 1 == count) N.null_field)
+null_alone nulls at count within null charset columns counted =
+    let one = rw counted at (null_column charset columns nulls at (omega arith) null) in
+    (grind (arith, N.add-zero))

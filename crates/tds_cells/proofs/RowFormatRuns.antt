@@ -4,6 +4,7 @@ use N.{arith, false, ◌∷◌, ◌≡◌, ◌∙◌, ap, ℕ, ◌+◌, ◌-◌,
 use N.{RunsMarked, inl, ◌⊎◌, ◌==◌, ◌≢◌, CellFormat, IsCursor, Knows, inr, true, []}
 use N.RunSteps.{made_more, marked_writes, rows_both, rows_none, rows_onward, used_more, unused}
 use N.FormatSteps.{some_first}
+use N.RowFormatSteps.{TakesColumn}
 use Rattle.std.proofs.lemmas.List.{get_or-drop}
 
 -- Between two places of rows, over the ends of so many, these bytes are their cells, and this is their text.
@@ -114,20 +115,22 @@ module _ (charset : N.Charset) (columns : List Column) where
 
   -- columns whose bits are clear
   pub marked_clear : (nulls : ℕ → Bool) (from n : ℕ) (bytes text : List ℕ) → ((k : ℕ) → from ≤ k → k < from + n → nulls k ≡ false)
-      → N.WritesMarked charset columns N.none_null from n bytes text → N.WritesMarked charset columns nulls from n bytes text
+      → N.WritesMarked charset columns (λ k. false) from n bytes text → N.WritesMarked charset columns nulls from n bytes text
   marked_clear _ _ N.zero _ _ _ x = x
   marked_clear nulls from (suc n) _ _ clear x =
+      let last = x.7 in
+      let set = clear (from + n) (omega arith) (omega arith) in
       let one : N.WritesColumn charset columns nulls (from + n) x.1 x.3 =
-      grind arith in
+      record { column = last.column; left = last.left; next = last.next; null = λ is. absurd (cc); cell = λ _. last.cell N.refl } in
       (x.0, x.1, x.2, x.3, x.4, x.5, marked_clear _ _ n _ _ (grind arith) x.6, one)
 
 module _ {row_format : RowFormat} {columns : List Column} {nulls : ℕ → Bool} {at : Cursor} where
-  pub runs_column : {after : Cursor} {kind : N.Kind} {last : Bool} {bytes text : List ℕ} → N.TakesColumn row_format columns at after kind
-      → last ≡ N.is_last_column (drop after.column columns) → N.WritesNext row_format.charset (nulls at.column) kind at.column last bytes text
-      → RunsMarked row_format columns nulls at after bytes text
-  runs_column {bytes = bytes} {text = text} taken end cell =
+  pub runs_column : {after : Cursor} {kind : N.Kind} {last : Bool} {bytes text : List ℕ} → TakesColumn row_format columns at after kind
+      → last ≡ N.is_last_column (drop after.column columns) → nulls at.column ≡ false
+      → N.WritesWhole (N.cell_start kind (N.shape row_format.charset kind)) at.column last bytes text → RunsMarked row_format columns nulls at after bytes text
+  runs_column {bytes = bytes} {text = text} taken end clear whole =
       let one : N.WritesColumn _ columns nulls _ bytes text =
-      record { column = taken.column; left = drop _ columns; next = taken.next; writes = rw (taken.kind, end) at cell } in
+      record { column = taken.column; left = drop _ columns; next = taken.next; null = λ is. absurd (cc); cell = λ _. rw (taken.kind, end) at whole } in
       record {
         count = 1;
         ahead = taken.ahead;
@@ -138,7 +141,7 @@ module _ {row_format : RowFormat} {columns : List Column} {nulls : ℕ → Bool}
 module _ {row_format : RowFormat} {columns : List Column} {nulls : ℕ → Bool} {from to : Cursor} where
   -- a run over columns whose bits are clear
   pub runs_clear : {bytes text : List ℕ} → ((k : ℕ) → from.column ≤ k → k < to.column → nulls k ≡ false)
-      → RunsMarked row_format columns N.none_null from to bytes text → RunsMarked row_format columns nulls from to bytes text
+      → RunsMarked row_format columns (λ k. false) from to bytes text → RunsMarked row_format columns nulls from to bytes text
   runs_clear clear x = grind (arith, marked_clear)
 
   -- more cells, in the bytes that are left and after what was made
@@ -155,7 +158,7 @@ module _ {row_format : RowFormat} {columns : List Column} {nulls : ℕ → Bool}
 
 -- a run ended before a column whose bit is clear
 pub ends_clear : (row_format : RowFormat) (nulls : ℕ → Bool) (at : Cursor) (bytes : List ℕ) (room : ℕ) → nulls at.column ≡ false
-    → N.EndsLeft row_format N.none_null at bytes room
+    → N.EndsLeft row_format (λ k. false) at bytes room
     → N.EndsLeft row_format nulls at bytes room
 ends_clear _ _ at bytes room clear x =
     λ columns column left knows ahead next. elim (x columns column left knows ahead next) [ inl few ↦ inl few | inr y ↦ inr (clear, y.1) ]
@@ -163,7 +166,7 @@ ends_clear _ _ at bytes room clear x =
 -- ---- the formats of the next columns
 
 -- those that a row format knows, from a place in a row on
-pub known_ahead : (row_format : RowFormat) (at : Cursor) (end : ℕ) (n : ℕ) → N.AreLaidOut row_format.charset row_format.formats.now
+pub known_ahead : (row_format : RowFormat) (at : Cursor) (end : ℕ) (n : ℕ) → N.Each (λ f. N.IsLaidOut row_format.charset f.kind f.layout) row_format.formats.now
     → row_format.known ≤ length row_format.formats.now → 0 < n
     → at.column + n ≤ end → at.column + n ≤ row_format.known → row_format.known ≤ row_format.count
     → N.AreAtCursor row_format at end (take n (drop at.column row_format.formats.now))
@@ -178,11 +181,11 @@ known_ahead _ at end n laid fits some within known few =
       next = λ columns knows ahead.
           let first =
           ap (N.map _) (sym (N.take-take _ _ _ known)) ∙ sym (N.take-map _ _ _) ∙ ap (take _) knows.first
-          ∙ N.take-map _ _ _ ∙ ap N.kinds (N.take-take _ _ columns known) in
+          ∙ N.take-map _ _ _ ∙ ap (N.map (λ (c : Column). c.kind)) (N.take-take _ _ columns known) in
           let formats_are =
           ap (N.map _) (sym (N.drop-take k n _)) ∙ sym (N.drop-map _ k _) ∙ ap (drop k) first ∙ N.drop-map _ k _
-          ∙ ap N.kinds (N.drop-take k n columns) in
-          formats_are ∙ ap (λ m. N.kinds (take m (drop k columns))) (sym len);
+          ∙ ap (N.map (λ (c : Column). c.kind)) (N.drop-take k n columns) in
+          formats_are ∙ ap (λ m. N.map (λ (c : Column). c.kind) (take m (drop k columns))) (sym len);
     }
 
 -- no cell was written where no byte was used
@@ -201,7 +204,8 @@ module _ (row_format : RowFormat) (from : Cursor) (end : ℕ) (formats : List Ce
     -- what was written by them is between two places of the row
     pub formats_between : (columns : List Column) → Knows row_format columns → IsCursor row_format columns from
         → (to : Cursor) (bytes text : List ℕ) (run : N.FormatsRun) → to.column ≡ from.column + run.cells → IsCursor row_format columns to
-        → ((all : List Column) → N.AreNext formats ends (drop from.column all)
+        → ((all : List Column) → N.map (λ f. f.kind) formats ≡ N.map (λ c. c.kind) (take (length formats) (drop from.column all))
+        → ends ≡ (length formats == length (drop from.column all))
         → N.WritesMarked row_format.charset all (λ k. false) from.column run.cells (take run.used bytes) (take run.made text))
         → RunsMarked row_format columns (λ k. false) from to (take run.used bytes) (take run.made text)
     formats_between _ knows is _ _ _ _ further there x = grind (arith, N.length-drop)
@@ -230,7 +234,7 @@ module _ (row_format : RowFormat) (from : Cursor) (end : ℕ) (formats : List Ce
       grind (arith, get_or-drop) in
       let second : N.get_or next k column ≡ column =
       grind (arith, get_or-drop) in
-      let kinds_are : N.map (λ f. f.kind) (take (length formats) formats) ≡ N.kinds (take (length formats) next) =
+      let kinds_are : N.map (λ f. f.kind) (take (length formats) formats) ≡ N.map (λ c. c.kind) (take (length formats) next) =
       grind (arith, N.take_all) in
       let further : k < length next = omega (arith, ap length there, N.length-drop k next) in
       let kind_is = rw (first, second) at (N.RowFormatSteps.known_kind formats next (length formats) k format column kinds_are some (omega arith) further) in

@@ -13,8 +13,8 @@ next_column columns k {c} h =
     (grind arith)
 
 pub first_more : (formats : List CellFormat) (columns : List Column) (k : ℕ) (f : CellFormat) {c : Column} {rest : List Column} → k < length formats
-    → map (λ f. f.kind) (take k formats) ≡ N.kinds (take k columns) → drop k columns ≡ c ∷ rest → f.kind ≡ c.kind
-    → map (λ f. f.kind) (take (k + 1) (N.slice_set formats k f)) ≡ N.kinds (take (k + 1) columns)
+    → map (λ f. f.kind) (take k formats) ≡ map (λ c. c.kind) (take k columns) → drop k columns ≡ c ∷ rest → f.kind ≡ c.kind
+    → map (λ f. f.kind) (take (k + 1) (N.slice_set formats k f)) ≡ map (λ c. c.kind) (take (k + 1) columns)
 first_more _ _ k f within first h is = grind (arith, N.common_steps, next_column)
 
 -- whether one more column is of such a kind too
@@ -27,7 +27,7 @@ all_more of columns k {c = c} h before is =
 
 -- the kind of a column that is known
 pub known_kind : (formats : List CellFormat) (columns : List Column) (n k : ℕ) (f : CellFormat) (c : Column)
-    → map (λ f. f.kind) (take n formats) ≡ N.kinds (take n columns) → k < n → n ≤ length formats → k < length columns
+    → map (λ f. f.kind) (take n formats) ≡ map (λ c. c.kind) (take n columns) → k < n → n ≤ length formats → k < length columns
     → (get_or formats k f).kind ≡ (get_or columns k c).kind
 known_kind formats columns n k f c first known some within =
     let one : k < length _ = omega (arith, N.length-take n formats) in
@@ -73,8 +73,16 @@ pub walk_after : (walk new : N.Walk) (column : N.Option walks.Column) → N.Yiel
     → columns_left new ≡ drop 1 (columns_left walk)
 walk_after _ _ _ y = grind arith
 
+-- A column was taken, the next one ahead, and this is its kind.
+pub record TakesColumn (row_format : N.RowFormat) (columns : List Column) (old new : Cursor) (next_kind : Kind) : Type 0 where
+  pub column : Column
+  pub next : drop old.column columns ≡ column ∷ drop new.column columns
+  pub kind : next_kind ≡ column.kind
+  pub further : new.column ≡ old.column + 1
+  pub ahead : IsCursor row_format columns new
+
 pub takes : {row_format : N.RowFormat} {columns : List Column} {old new : Cursor} {kind : Kind} → N.NextColumn columns old kind → new.column ≡ old.column + 1
-    → IsCursor row_format columns new → N.TakesColumn row_format columns old new kind
+    → IsCursor row_format columns new → TakesColumn row_format columns old new kind
 takes x further ahead = grind (arith, next_column)
 
 -- a place in a row that isn't at its end is before it

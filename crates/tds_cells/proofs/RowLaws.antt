@@ -30,15 +30,15 @@ module _ (charset : N.Charset) where
       rw h.2 (N.Spelt-append _ _ h.0 _ h.1 _ first more)
   cells_are_read _ _ _ _ h = absurd h
 
-  pub row_is_read : (columns : List Column) (cells : List Cell) (bytes : List ℕ) → N.SpellsRow charset columns cells bytes
-      → Spelt (row charset) (N.row_start charset columns) bytes (N.WholeRow cells)
+  pub row_is_read : (columns : List Column) (cells : List Cell) (bytes : List ℕ) → N.SpellsRow N.PlainRow charset columns cells bytes
+      → Spelt (row charset) (N.row_start N.PlainRow charset columns) bytes (N.WholeRow cells)
   row_is_read _ cells bytes h = cells_are_read [] _ cells bytes h
 
   pub nbc_row_is_read : (columns : List Column) (cells : List Cell) (bytes : List ℕ) → 0 < N.bitmap_length (length columns)
-      → N.SpellsNbcRow charset columns cells bytes → Spelt (row charset) (Bitmap columns) bytes (N.WholeRow cells)
+      → N.SpellsRow N.NbcRow charset columns cells bytes → Spelt (row charset) (Bitmap columns) bytes (N.WholeRow cells)
   nbc_row_is_read _ _ _ some h =
-      let w = h.whole in
-      rw h.spelt (N.Spelt-append _ _ _ _ _ _ (N.Spelt-step _ _ _ _ (rw w some) w N.refl N.refl) (cells_are_read [] _ _ _ h.each))
+      let w = h.3 in
+      rw h.2 (N.Spelt-append _ _ _ _ _ _ (N.Spelt-step _ _ _ _ (rw w some) w N.refl N.refl) (cells_are_read [] _ _ _ h.4))
 
   -- an NBCROW of no columns stays before its bitmap
   stays : (es : List (List ℕ)) (at : N.RowPart) → N.Leads (row charset) (Bitmap []) es at → at ≡ Bitmap []
@@ -47,8 +47,8 @@ module _ (charset : N.Charset) where
 
   -- No row begins with an element that is refused.
   pub refused_row : (token : N.RowToken) (columns : List Column) (front rest more : List ℕ) (at : N.RowPart) (fault : N.Fault) (cells : List Cell) →
-      Spelt (row charset) (N.token_start token charset columns) front at → N.IsRefused (row charset) at rest fault
-      → N.SpellsRowAs token charset columns cells ((front ++ N.take (N.row_size at) rest) ++ more) → ⊥
+      Spelt (row charset) (N.row_start token charset columns) front at → N.IsRefused (row charset) at rest fault
+      → N.SpellsRow token charset columns cells ((front ++ N.take (N.row_size at) rest) ++ more) → ⊥
   refused_row N.PlainRow columns front rest more at fault cells h r k =
       N.refused_for_good _ _ front at rest fault more _ h r (row_is_read columns cells _ k)
   refused_row N.NbcRow [] front rest more at fault cells h r k = grind (arith, stays)
@@ -57,10 +57,10 @@ module _ (charset : N.Charset) where
       (nbc_row_is_read _ cells _ (omega arith) k)
 
   -- No bytes spell two rows of the same columns.
-  pub one_row : (token : N.RowToken) (columns : List Column) (a b : List Cell) (bytes : List ℕ) → N.SpellsRowAs token charset columns a bytes
-      → N.SpellsRowAs token charset columns b bytes → a ≡ b
+  pub one_row : (token : N.RowToken) (columns : List Column) (a b : List Cell) (bytes : List ℕ) → N.SpellsRow token charset columns a bytes
+      → N.SpellsRow token charset columns b bytes → a ≡ b
   one_row N.PlainRow columns a b _ h k = let e = N.one_state _ _ _ _ _ (row_is_read columns a _ h) (row_is_read columns b _ k) in cc
   one_row N.NbcRow [] a b bytes h k = grind arith
-  one_row N.NbcRow (c ∷ cs) a b _ h k =
+  one_row N.NbcRow (c ∷ cs) a b bytes h k =
       let some = some_bitmap (c ∷ cs) (omega arith) in
-      let e = N.one_state _ _ _ _ _ (nbc_row_is_read _ _ _ some h) (nbc_row_is_read _ _ _ some k) in cc
+      let e = N.one_state _ _ _ _ _ (nbc_row_is_read (c ∷ cs) a bytes some h) (nbc_row_is_read (c ∷ cs) b bytes some k) in cc

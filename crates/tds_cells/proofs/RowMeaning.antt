@@ -86,8 +86,8 @@ module _ (charset : N.Charset) where
         from_marked _ h.0 _ _ (ap (λ v. v ++ e) h.2 ∙ N.append_assoc h.0 h.1 e) h.3 (marked_step _ h.1 e bytes h.4 n)
     row_step _ (N.WholeRow cells) b e _ h n = grind arith
 
-    pub row_start_means : RowMeans columns false (N.row_start charset columns) []
-    row_start_means = from_plain (N.row_start charset columns) [] (next_means _ [] (marked columns (λ k. false) 0) [] []
+    pub row_start_means : RowMeans columns false (N.row_start N.PlainRow charset columns) []
+    row_start_means = from_plain (N.row_start N.PlainRow charset columns) [] (next_means _ [] (marked columns (λ k. false) 0) [] []
         refl refl)
 
     -- what is read from such a part on has its meaning
@@ -97,12 +97,11 @@ module _ (charset : N.Charset) where
         N.Spelt-induct _ (λ p b. AreBytes b → RowMeans columns nbc p b)
         (grind (arith, row_step, N.AreBytes-back, N.AreBytes-front)) from (λ _. begun) bytes to h are
 
-    pub row_is_spelt : {cells : List Cell} {bytes : List ℕ} → AreBytes bytes → N.Spelt (row charset) (N.row_start charset columns) bytes (N.WholeRow cells)
-        → N.SpellsRow charset columns cells bytes
+    pub row_is_spelt : {cells : List Cell} {bytes : List ℕ} → AreBytes bytes
+        → N.Spelt (row charset) (N.row_start N.PlainRow charset columns) bytes (N.WholeRow cells)
+        → N.SpellsRow N.PlainRow charset columns cells bytes
     row_is_spelt are h = row_means _ row_start_means _ _ are h
 
-    pub nbc_row_is_spelt : {cells : List Cell} {bytes : List ℕ} → AreBytes bytes → N.Spelt (row charset) (N.nbc_row_start columns) bytes (N.WholeRow cells)
-        → N.SpellsNbcRow charset columns cells bytes
-    nbc_row_is_spelt are h =
-        let m = row_means true (refl, refl, refl) _ _ are h in
-        record { bitmap = m.0; rest = m.1; spelt = m.2; whole = m.3; each = m.4 }
+    pub nbc_row_is_spelt : {cells : List Cell} {bytes : List ℕ} → AreBytes bytes → N.Spelt (row charset) (Bitmap columns) bytes (N.WholeRow cells)
+        → N.SpellsRow N.NbcRow charset columns cells bytes
+    nbc_row_is_spelt are h = row_means true (refl, refl, refl) _ _ are h

@@ -57,7 +57,7 @@ lines-append [] qs = refl
 lines-append (r ∷ rs) qs = N.ap (λ l. N.line (N.map N.field r) ++ l) (lines-append rs qs) ∙ sym (N.append_assoc _ (lines rs) (lines qs))
 
 -- some columns are to come, so no line ends there
-pub start_text : (token : N.RowToken) (charset : Charset) (columns : List Column) → 0 < length columns → row_so_far (N.token_start token charset columns) ≡ []
+pub start_text : (token : N.RowToken) (charset : Charset) (columns : List Column) → 0 < length columns → row_so_far (N.row_start token charset columns) ≡ []
 start_text PlainRow _ [] some = grind arith
 start_text PlainRow _ (c ∷ cs) _ = grind arith
 start_text N.NbcRow _ _ _ = refl
@@ -74,7 +74,7 @@ module _ (token : N.RowToken) (charset : Charset) (all : List Column) (before : 
   -- the token byte of the next row
   pub row_token : (cells : List Cell) → 0 < length all
       → Writes (rows token charset all) rows_so_far (record { before = before; at = N.WholeRow cells }) (N.token_byte token ∷ []) []
-      (record { before = before ++ cells ∷ []; at = N.token_start token charset all })
+      (record { before = before ++ cells ∷ []; at = N.row_start token charset all })
   row_token _ some = grind (arith, N.Spelt-one, N.append-nil, lines-append, start_text)
 
 -- ---- cells of the last row
@@ -110,7 +110,7 @@ module _ {charset : Charset} {all : List Column} {cells : List Cell} {from : ℕ
   column_cells : {a b p q : List ℕ} (at : ℕ) → WritesCells charset all cells from at a p → N.WritesColumn charset all (λ k. false) at b q
       → WritesCells charset all cells from (at + 1) (a ++ b) (p ++ q)
   column_cells {b = b} {q = q} at x w =
-      let z = rw (sym x.counted) at w.writes in
+      let z = rw (sym x.counted) at (w.cell refl) in
       let one = after_more charset x.more w.column w.left (cell_writes w.column.kind _ z) in
       let after = λ (l : List Column). after_cells charset (x.more ++ z.value ∷ []) l in
       let next = N.subst (λ l. Writes (row charset) row_so_far (after_cells charset x.more (w.column ∷ w.left)) b q (after l))

@@ -6,7 +6,8 @@ use Rattle.tds_values.specs.Kind.{is_valid}
 use Rattle.tds_values.specs.ScalarText.{text_of}
 use Rattle.tds_values.specs.Kind.{fixed_length}
 
-pub scalar_shape : (charset : N.Charset) (kind : Kind) → N.is_scalar kind ≡ true → N.shape charset kind ≡ N.shape_of_length (fixed_length kind)
+pub scalar_shape : (charset : N.Charset) (kind : Kind) → N.is_scalar kind ≡ true
+    → N.shape charset kind ≡ N.option_map_or N.FixedShape (fixed_length kind) N.CountedShape
 scalar_shape _ _ h = grind arith
 
 -- The text is that of a scalar value of these bytes, in its line.

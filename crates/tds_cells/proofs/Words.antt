@@ -11,6 +11,7 @@ pub use Rattle.std.proofs.lemmas.List.{map-append, drop-drop, take_all, take-app
 pub use Rattle.std.proofs.lemmas.List.Folds.{concat-append, list_all_more}
 pub use Rattle.std.specs.Iterator.{YieldsFirstBy}
 pub use Rattle.std.specs.List.{concat, list_all}
+pub use Rattle.std.specs.Option.{option_map_or}
 pub use Rattle.std.specs.Prelude.{◌==◌, if◌then◌else◌, slice_set, ◌||◌, is_ok, ◌&&◌, None, slice_index, Option, nat_le, map, codes, Some, nat_lt}
 pub use Rattle.tds_columns.proofs.ByteLemmas.{one_byte, little-two, two_bytes}
 pub use Rattle.tds_columns.proofs.ViewLaws.{all_after}
@@ -33,33 +34,30 @@ pub use Rattle.tds_packet.specs.declared.fault.Fault.{Fault}
 pub use Rattle.tds_packet.specs.declared.fault.Fault.TheVariants.{PlpLength}
 pub use Rattle.tds_cells.specs.CellTexts.{IsScalarLeft, cell_so_far, opened, IsLeft, WritesKind, is_counted, is_last_column}
 pub use Rattle.tds_cells.specs.CellTexts.{is_int4, WritesField, whole_size}
-pub use Rattle.tds_cells.specs.Cells.{chunk_fault, ShortData, within_total, ScalarLength, ScalarCell, WholeCell, CountedShape, cell, ChunkLength, value_part}
-pub use Rattle.tds_cells.specs.Cells.{end_of_chunks, ShortLength, cell_start, null_total, cell_add, Null, unknown_total}
+pub use Rattle.tds_cells.specs.Cells.{cell_fault, ShortData, within_total, ScalarLength, ScalarCell, WholeCell, CountedShape, cell, ChunkLength, value_part}
+pub use Rattle.tds_cells.specs.Cells.{end_of_chunks, ShortLength, cell_start, cell_add, Null}
 pub use Rattle.tds_cells.specs.Cells.{SpellsChunked, cell_size, unless, shape}
-pub use Rattle.tds_cells.specs.Cells.{ScalarBytes, Total, field, SpellsShort, Shape, known_total, FixedShape, field_so_far, ChunkData, CellPart}
-pub use Rattle.tds_cells.specs.Cells.{SpellsChunk, SpellsChunks, LongShape, shape_of_length, Cell, is_total, SpellsCell}
+pub use Rattle.tds_cells.specs.Cells.{ScalarBytes, Total, field, Shape, known_total, FixedShape, field_so_far, ChunkData, CellPart}
+pub use Rattle.tds_cells.specs.Cells.{SpellsChunk, SpellsChunks, LongShape, Cell, is_total, SpellsCell}
 pub use Rattle.tds_cells.specs.Cells.{DataCell}
-pub use Rattle.tds_cells.specs.FormatRuns.{run_since, FirstLeft, AreNext, WritesFormats, RunsFormats}
+pub use Rattle.tds_cells.specs.FormatRuns.{run_since, FirstLeft, WritesFormats, RunsFormats}
 pub use Rattle.tds_cells.specs.FormatRuns.{WritesFields}
-pub use Rattle.tds_cells.specs.Formats.{AreLaidOut, Each}
+pub use Rattle.tds_cells.specs.Formats.{Each}
 pub use Rattle.tds_cells.specs.Layouts.{IsLaidOut}
 pub use Rattle.tds_cells.specs.MarkedRuns.{WritesColumn, EndsFar, EndsLeft, CellsWritten, BitsAre, WritesMarked}
-pub use Rattle.tds_cells.specs.MarkedRuns.{RunsMarked, WritesNext}
+pub use Rattle.tds_cells.specs.MarkedRuns.{RunsMarked}
 pub use Rattle.tds_cells.specs.MarkedRows.{EndsNbcRows, WritesNbcRows, WritesWholeRows}
-pub use Rattle.tds_cells.specs.Rows.{marked, WholeRow, bitmap_length, row_add, SpellsMarked, bit, RowToken, Bitmap, PlainRow, with_cell, RowPart, SpellsNbcRow}
-pub use Rattle.tds_cells.specs.Rows.{SpellsRow, SpellsRowAs, row, NbcRow, row_so_far, with_field, row_size, InCell, token_byte, row_start, token_start}
-pub use Rattle.tds_cells.specs.Rows.{next_cell, nbc_row_start}
+pub use Rattle.tds_cells.specs.Rows.{marked, WholeRow, bitmap_length, row_add, SpellsMarked, bit, RowToken, Bitmap, PlainRow, with_cell, RowPart}
+pub use Rattle.tds_cells.specs.Rows.{SpellsRow, row, NbcRow, row_so_far, with_field, row_size, InCell, token_byte, row_start}
+pub use Rattle.tds_cells.specs.Rows.{next_cell}
 pub use Rattle.tds_cells.specs.Runs.{KnownRan, rows_so_far, lines, rows, Writes, after_cells, RowsPart}
 pub use Rattle.tds_cells.specs.Runs.{WritesRows}
-pub use Rattle.tds_cells.specs.ShortCells.{stated_length, short_size}
-pub use Rattle.tds_cells.specs.ChunkedCells.{HasOneChunk, chunk_end, chunked_size}
-pub use Rattle.tds_cells.specs.LongFields.{IsLongLeft}
-pub use Rattle.tds_cells.specs.RowFormats.{BeginsRow, TakesColumn, IsCursor, AreAtCursor, kinds, Knows, NextColumn, place}
+pub use Rattle.tds_cells.specs.LongFields.{HasOneChunk, IsLongLeft, chunk_end, data_length}
+pub use Rattle.tds_cells.specs.RowFormats.{BeginsRow, IsCursor, AreAtCursor, Knows, NextColumn, place}
 pub use Rattle.tds_cells.specs.WholeCells.{WritesCell, WritesWhole}
 pub use Rattle.tds_cells.specs.declared.layout.CellFormat.{CellFormat}
 pub use Rattle.tds_cells.specs.declared.layout.Layout.{Layout}
 pub use Rattle.tds_cells.specs.declared.whole.TheConstants.{CELL_ROOM}
-pub use Rattle.tds_cells.specs.MarkedRuns.{none_null}
 pub use Rattle.tds_cells.specs.Runs.{Ran}
 pub use Rattle.tds_cells.specs.declared.run.RowsSpan.{RowsSpan}
 pub use Rattle.tds_cells.specs.declared.nulls.Nulls.TheVariants.{Unmarked}
@@ -78,4 +76,3 @@ pub use Rattle.tds_values.specs.declared.kind.Kind.TheVariants.{IntN, Wide}
 pub use Rattle.tds_values.specs.declared.kind.Reach.TheVariants.{Short, Chunked}
 pub use Rattle.tds_values.specs.declared.scalar.ScalarValue.{ScalarValue}
 pub use Rattle.tds_values.specs.declared.scalar.ValueFault.{ValueFault}
-pub use Rattle.tds_cells.specs.MarkedRuns.{WritesNulls}

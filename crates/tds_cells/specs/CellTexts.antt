@@ -1,9 +1,9 @@
 -- What reading a cell and putting it into its line does.
-use Rattle.std.specs.Prelude.{◌≡◌, ◌==◌, ◌⊎◌, ◌+◌, ◌-◌, ◌<◌, ◌≤◌, ℕ, Bool, true, false, List, [], ◌∷◌, length, take, is_ok, Option}
+use Rattle.std.specs.Prelude.{◌≡◌, ◌==◌, ◌⊎◌, ◌-◌, ◌<◌, ◌≤◌, ℕ, Bool, true, false, List, [], ◌∷◌, length, take, is_ok, Option}
 use Rattle.std.specs.Prelude.{Some, None, Err, MatchOption, if◌then◌else◌}
 use Rattle.tds_values.specs.declared.kind.Kind.{Kind}
 use Rattle.tds_values.specs.declared.kind.Kind.TheVariants.{Int4, IntN}
-use Rattle.tds_values.specs.Front.{scalar_size, value_bytes, value_length, value_start}
+use Rattle.tds_values.specs.Front.{scalar_size, value_bytes, value_length}
 use Rattle.tds_values.specs.Kind.{is_scalar}
 use Rattle.tds_values.specs.Scalar.{read_of}
 use Rattle.tds_columns.specs.Description.{Column}
@@ -43,13 +43,6 @@ is_int4 kind = false
 abbrev pub is_counted : Kind → Bool
 is_counted (IntN n) = true
 is_counted kind = false
-
--- A whole number of four bytes is the value of the cell at the front of these bytes, so far after it.
-pub record HasInt4 (kind : Kind) (start : ℕ) (bytes : List ℕ) : Type 0 where
-  pub number : is_int4 kind ≡ true
-  pub starts : start ≡ value_start kind
-  pub four : value_length kind bytes ≡ 4
-  pub within : start + 4 ≤ length bytes
 
 -- how many bytes the cell at the front of these bytes has; of one in several chunks nothing is said
 abbrev pub whole_size : Kind → List ℕ → ℕ

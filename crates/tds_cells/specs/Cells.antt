@@ -2,6 +2,7 @@
 use Rattle.std.specs.Prelude.{◌≡◌, ◌==◌, ◌&&◌, ◌||◌, ◌+◌, ◌-◌, ◌%◌, ◌/◌, ◌^◌, ◌<◌, ◌⊎◌, ℕ, Bool, true, false, List, [], ◌∷◌, ◌++◌, length, replicate}
 use Rattle.std.specs.Prelude.{Option, Some, None, if◌then◌else◌, nat_lt, nat_le, slice_index, Result, Ok, Err, is_ok}
 use Rattle.std.specs.List.{concat}
+use Rattle.std.specs.Option.{option_map_or}
 use Rattle.tds_values.specs.declared.kind.Kind.{Kind}
 use Rattle.tds_values.specs.declared.kind.Kind.TheVariants.{Binary, Narrow, Wide}
 use Rattle.tds_values.specs.declared.kind.Reach.{Reach}
@@ -48,17 +49,12 @@ pub data Shape : Type 0 where
   CountedShape : Shape
   LongShape : Conversion → Reach → Shape
 
--- the shape of a scalar kind, by the length that its values have without one before them
-abbrev pub shape_of_length : Option ℕ → Shape
-shape_of_length (Some n) = FixedShape n
-shape_of_length None = CountedShape
-
--- the shape of a kind: how its values are spelt
+-- the shape of a kind: how its values are spelt; those of a scalar kind have a length of their own, or one before them
 abbrev pub shape : Charset → Kind → Shape
 shape charset (Binary r) = LongShape HexDigits r
 shape charset (Narrow r) = LongShape (narrow charset) r
 shape charset (Wide r) = LongShape Utf16Text r
-shape charset kind = shape_of_length (fixed_length kind)
+shape charset kind = option_map_or FixedShape (fixed_length kind) CountedShape
 
 -- The bytes spell a chunk: its length, which isn't 0, and its data.
 pub record SpellsChunk (content bytes : List ℕ) : Type 0 where
@@ -73,32 +69,19 @@ abbrev pub SpellsChunks : List (List ℕ) → List ℕ → Type 0
 SpellsChunks [] bytes = bytes ≡ 0 ∷ 0 ∷ 0 ∷ 0 ∷ []
 SpellsChunks (d ∷ ds) bytes = (front : List ℕ) × (rest : List ℕ) × (bytes ≡ front ++ rest) × SpellsChunk d front × SpellsChunks ds rest
 
--- the total that stands for an unknown one
-abbrev pub unknown_total : ℕ
-unknown_total = 2 ^ 64 - 2
-
--- the total and the length that stand for NULL
-abbrev pub null_total : ℕ
-null_total = 2 ^ 64 - 1
-
--- The bytes spell the data of a chunked value (MS-TDS, Partially Length-prefixed Bytes): a total, unknown or its length, its chunks and the
--- terminator.
+-- The bytes spell the data of a chunked value (MS-TDS, Partially Length-prefixed Bytes): a total, 2 ^ 64 - 2 for an unknown one or its length, its
+-- chunks and the terminator.
 pub record SpellsChunked (content bytes : List ℕ) : Type 0 where
   pub total : List ℕ
   pub rest : List ℕ
   pub chunks : List (List ℕ)
   pub spelt : bytes ≡ total ++ rest
   pub eight : length total ≡ 8
-  pub known : (little total ≡ unknown_total) ⊎ ((little total ≡ length content) × (length content < unknown_total))
+  pub known : (little total ≡ 2 ^ 64 - 2) ⊎ ((little total ≡ length content) × (length content < 2 ^ 64 - 2))
   pub each : SpellsChunks chunks rest
   pub all : concat chunks ≡ content
 
--- The bytes spell the data of a short value: a two-byte length, not 0xFFFF, and the data.
-pub record SpellsShort (content bytes : List ℕ) : Type 0 where
-  pub counted : bytes ≡ (length content % 256 ∷ length content / 256 ∷ []) ++ content
-  pub least : length content < 65535
-
--- The bytes spell the cell, by cases on the shape of the kind.
+-- The bytes spell the cell, by cases on the shape of the kind. A short value is its two-byte length, not 0xFFFF, and its data.
 abbrev pub SpellsCell : Kind → Shape → Cell → List ℕ → Type 0
 SpellsCell kind (FixedShape n) (ScalarCell v) bytes = (length bytes ≡ n) × (read_of kind bytes ≡ Ok v)
 SpellsCell kind (FixedShape n) cell bytes = ⊥
@@ -107,7 +90,8 @@ SpellsCell kind CountedShape (ScalarCell v) bytes = (value : List ℕ) × (bytes
     × (is_length_allowed kind (length value) ≡ true) × (read_of kind value ≡ Ok v)
 SpellsCell kind CountedShape (DataCell c d) bytes = ⊥
 SpellsCell kind (LongShape c Short) Null bytes = bytes ≡ 255 ∷ 255 ∷ []
-SpellsCell kind (LongShape c Short) (DataCell c' d) bytes = (c' ≡ c) × (is_fit c d ≡ true) × SpellsShort d bytes
+SpellsCell kind (LongShape c Short) (DataCell c' d) bytes = (c' ≡ c) × (is_fit c d ≡ true) × (length d < 65535)
+    × (bytes ≡ (length d % 256 ∷ length d / 256 ∷ []) ++ d)
 SpellsCell kind (LongShape c Chunked) Null bytes = bytes ≡ replicate 8 255
 SpellsCell kind (LongShape c Chunked) (DataCell c' d) bytes = (c' ≡ c) × (is_fit c d ≡ true) × SpellsChunked d bytes
 SpellsCell kind (LongShape c r) (ScalarCell v) bytes = ⊥
@@ -175,11 +159,6 @@ end_of_chunks column c total content =
     then (if length content % unit c == 0 then unless (is_fit c content) (BadText column) else Some (OddText column))
     else Some (PlpLength column)
 
--- the length of a chunk is judged
-abbrev pub chunk_fault : ℕ → Conversion → Option ℕ → List ℕ → ℕ → Option Fault
-chunk_fault column c total content n = if n == 0 then end_of_chunks column c total content else unless (within_total total (length content + n))
-    (PlpLength column)
-
 -- the first fault of an element of a cell
 abbrev pub cell_fault : ℕ → CellPart → List ℕ → Option Fault
 cell_fault column (ScalarBytes kind n) element = unless (is_ok (read_of kind element)) (BadValue column)
@@ -188,8 +167,9 @@ cell_fault column (ScalarLength kind) element =
 cell_fault column (ShortLength c) element = unless ((little element == 0xFFFF) || (little element % unit c == 0)) (OddText column)
 cell_fault column (ShortData c left content) element =
     unless (is_begun c (content ++ element) && (nat_lt 0 left || is_fit c (content ++ element))) (BadText column)
-cell_fault column (Total c) element = unless (nat_le unknown_total (little element) || (little element % unit c == 0)) (OddText column)
-cell_fault column (ChunkLength c total content) element = chunk_fault column c total content (little element)
+cell_fault column (Total c) element = unless (nat_le (2 ^ 64 - 2) (little element) || (little element % unit c == 0)) (OddText column)
+cell_fault column (ChunkLength c total content) element = if little element == 0 then end_of_chunks column c total content else
+    unless (within_total total (length content + little element)) (PlpLength column)
 cell_fault column (ChunkData c total left content) element = unless (is_begun c (content ++ element)) (BadText column)
 cell_fault column (WholeCell cell) element = None
 
@@ -198,11 +178,11 @@ abbrev pub value_part : Result ScalarValue ValueFault → CellPart
 value_part (Ok v) = WholeCell (ScalarCell v)
 value_part (Err fault) = WholeCell Null
 
--- a total, unless it stands for an unknown one
+-- a total, unless it is 2 ^ 64 - 2, which stands for an unknown one
 abbrev pub known_total : ℕ → Option ℕ
-known_total n = if n == unknown_total then None else Some n
+known_total n = if n == (2 ^ 64 - 2) then None else Some n
 
--- the state after an element of a cell
+-- the state after an element of a cell; the total 2 ^ 64 - 1 stands for NULL
 abbrev pub cell_add : CellPart → List ℕ → CellPart
 cell_add (ScalarBytes kind n) element = value_part (read_of kind element)
 cell_add (ScalarLength kind) element = if slice_index element 0 == 0 then WholeCell Null else ScalarBytes kind (slice_index element 0)
@@ -210,7 +190,7 @@ cell_add (ShortLength c) element = if little element == 0xFFFF then WholeCell Nu
     ShortData c (little element - 1) []
 cell_add (ShortData c left content) element =
     if left == 0 then WholeCell (DataCell c (content ++ element)) else ShortData c (left - 1) (content ++ element)
-cell_add (Total c) element = if little element == null_total then WholeCell Null else ChunkLength c (known_total (little element)) []
+cell_add (Total c) element = if little element == (2 ^ 64 - 1) then WholeCell Null else ChunkLength c (known_total (little element)) []
 cell_add (ChunkLength c total content) element =
     if little element == 0 then WholeCell (DataCell c content) else ChunkData c total (little element - 1) content
 cell_add (ChunkData c total left content) element =

@@ -11,12 +11,7 @@ use Rattle.tds_values.specs.declared.span.Span.{Span}
 use Rattle.tds_cells.specs.CellTexts.{IsLeft, IsScalarLeft, WritesField, is_counted, is_int4}
 use Rattle.tds_cells.specs.Formats.{Each}
 use Rattle.tds_cells.specs.MarkedRuns.{WritesMarked}
-use Rattle.tds_cells.specs.RowFormats.{BeginsRow, kinds}
-
--- The formats are those of the next columns, which are the row's last if the formats end it.
-pub record AreNext (formats : List CellFormat) (ends : Bool) (columns : List Column) : Type 0 where
-  pub kinds_are : map (λ f. f.kind) formats ≡ kinds (take (length formats) columns)
-  pub ends_are : ends ≡ (length formats == length columns)
+use Rattle.tds_cells.specs.RowFormats.{BeginsRow}
 
 -- A run wrote no more cells than there are, from no more bytes, into no more room; and a cell has some bytes.
 pub record IsWithin (run : FormatsRun) (most bytes room : ℕ) : Type 0 where
@@ -58,38 +53,26 @@ pub record AreNumbers (counted : Bool) (formats : List CellFormat) (bytes room :
   pub lengths : counted ≡ true → Each (λ f. is_counted f.kind ≡ true) formats
   pub within : NumbersWithin (length formats) bytes room
 
--- A run over cells by their formats did so much: it wrote the text of the bytes that it used, which are the next cells, and left the first cell if it
--- wrote none.
+-- A run over cells by their formats did so much: it left the first cell if it wrote none, and wrote the text of the bytes that it used, which are the
+-- next cells, if the formats are those of the next columns and end the row where these do.
 pub record RunsFormats (charset : Charset) (formats : List CellFormat) (column : ℕ) (last : Bool) (bytes : List ℕ) (room : ℕ) (text : List ℕ)
     (run : FormatsRun) : Type 0 where
   pub within : IsWithin run (length formats) (length bytes) room
   pub ends : run.cells ≡ 0 → FirstLeft charset formats bytes room
-  pub cells : (columns : List Column) → AreNext formats last (drop column columns)
+  pub cells : (columns : List Column) → map (λ f. f.kind) formats ≡ map (λ c. c.kind) (take (length formats) (drop column columns))
+      → last ≡ (length formats == length (drop column columns))
       → WritesMarked charset columns (λ k. false) column run.cells (take run.used bytes) (take run.made text)
 
 -- what a run did that began in these bytes and this text
 abbrev pub run_since : Span → FormatsRun → FormatsRun
 run_since from run = record { cells = run.cells; used = run.used - from.used; made = run.made - from.made }
 
--- A run wrote a whole row of numbers, which begins where the span says, as does its text, and after which bytes are left; single-byte text is in any
--- set.
-pub record RunsRow (formats : List CellFormat) (from : Span) (bytes : List ℕ) (room : ℕ) (text : List ℕ) (run : FormatsRun) : Type 0 where
-  pub whole : run.cells ≡ length formats
-  pub left : run.used < length bytes
-  pub begun : (from.used ≤ run.used) × (from.made ≤ run.made)
-  pub most : run.made ≤ room
-  pub row : (charset : Charset) → RunsFormats charset formats 0 true (drop from.used bytes) (room - from.made) (drop from.made text) (run_since from run)
-
--- After the cells of a run the next one is refused, which is of a scalar kind.
-abbrev pub IsRefusedAfter : List CellFormat → List ℕ → FormatsRun → Type 0
-IsRefusedAfter formats bytes run = (format : CellFormat) → IsScalarLeft (get_or formats run.cells format).kind (drop run.used bytes)
-
--- Some first cells of a row are at the front of these bytes, and after them one is refused.
+-- Some first cells of a row are at the front of these bytes, and after them one is refused, which is of a scalar kind.
 pub record RefusesRow (formats : List CellFormat) (bytes : List ℕ) : Type 0 where
   pub run : FormatsRun
   pub few : run.cells < length formats
   pub fields : (charset : Charset) → (text : List ℕ) × WritesFormats charset formats 0 run.cells (take run.used bytes) text
-  pub next : IsRefusedAfter formats bytes run
+  pub next : (format : CellFormat) → IsScalarLeft (get_or formats run.cells format).kind (drop run.used bytes)
 
 -- A run over rows of numbers ended before this column: before a row for which bytes or room are too few or of which a cell is refused, or after a row
 -- that no other follows.

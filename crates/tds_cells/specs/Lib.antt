@@ -6,10 +6,7 @@ pub mod Runs
 pub mod FormatRuns
 pub mod Layouts
 pub mod Formats
-pub mod ShortCells
-pub mod ChunkedCells
 pub mod LongFields
 pub mod WholeCells
 pub mod MarkedRows
 pub mod MarkedRuns
-pub mod Laws

@@ -1,6 +1,5 @@
 -- What a run over the cells of an NBCROW does, which are NULL by their bit or lie whole in the packet.
 use Rattle.std.specs.Prelude.{◌≡◌, ◌⊎◌, ◌+◌, ◌*◌, ◌<◌, ◌≤◌, ℕ, ⊤, zero, suc, Bool, true, false, List, [], ◌∷◌, ◌++◌, length, drop}
-use Rattle.tds_values.specs.declared.kind.Kind.{Kind}
 use Rattle.tds_columns.specs.Description.{Column}
 use Rattle.tds_text.specs.Quoting.{in_line, null_field}
 use Rattle.tds_values.specs.declared.charset.Charset.{Charset}
@@ -15,13 +14,9 @@ use Rattle.tds_cells.specs.CellTexts.{IsLeft, is_last_column}
 use Rattle.tds_cells.specs.RowFormats.{IsCursor, Knows}
 use Rattle.tds_cells.specs.WholeCells.{WritesWhole}
 
--- no column is NULL by its bit, as in a ROW
-abbrev pub none_null : ℕ → Bool
-none_null k = false
-
--- which columns of a row are NULL by a bit
+-- which columns of a row are NULL by a bit: none of a ROW
 abbrev pub nulls_of : Nulls → ℕ → Bool
-nulls_of Unmarked = none_null
+nulls_of Unmarked = λ k. false
 nulls_of (Marked bitmap) = bit bitmap.now
 
 -- A bitmap, if there is one, has a bit for each of this many columns.
@@ -29,28 +24,17 @@ abbrev pub Covers : Nulls → ℕ → Type 0
 Covers Unmarked count = ⊤
 Covers (Marked bitmap) count = count ≤ 8 * length bitmap.now
 
--- This is a cell's text in its line: that of NULL, which has no bytes, if that is its bit, and of the cell that the bytes are if it isn't.
-abbrev pub WritesNext : Charset → Bool → Kind → ℕ → Bool → List ℕ → List ℕ → Type 0
-WritesNext charset true kind column last bytes text = (bytes ≡ []) × (text ≡ in_line column last null_field)
-WritesNext charset false kind column last bytes text = WritesWhole (cell_start kind (shape charset kind)) column last bytes text
-
 -- The columns from one up to another are all NULL by their bit, or none is.
 abbrev pub BitsAre : Bool → (ℕ → Bool) → ℕ → ℕ → Type 0
 BitsAre null nulls from end = (k : ℕ) → from ≤ k → k < end → nulls k ≡ null
-
--- The columns from one up to another, of this number, aren't NULL by their bit; that one, if there is one, is.
-pub record EndsClear (nulls : ℕ → Bool) (from count end : ℕ) : Type 0 where
-  pub least : from ≤ end
-  pub most : end ≤ count
-  pub clear : BitsAre false nulls from end
-  pub set : end < count → nulls end ≡ true
 
 -- The bytes are the cell of the column after this number of them, none if it is NULL by its bit, and this is its text in its line.
 pub record WritesColumn (charset : Charset) (columns : List Column) (nulls : ℕ → Bool) (at : ℕ) (bytes text : List ℕ) : Type 0 where
   pub column : Column
   pub left : List Column
   pub next : drop at columns ≡ column ∷ left
-  pub writes : WritesNext charset (nulls at) column.kind at (is_last_column left) bytes text
+  pub null : nulls at ≡ true → (bytes ≡ []) × (text ≡ in_line at (is_last_column left) null_field)
+  pub cell : nulls at ≡ false → WritesWhole (cell_start column.kind (shape charset column.kind)) at (is_last_column left) bytes text
 
 -- The bytes are the cells of this many columns from one on, each but those that are NULL by their bit, and this is their text in their line.
 abbrev pub WritesMarked : Charset → List Column → (ℕ → Bool) → ℕ → ℕ → List ℕ → List ℕ → Type 0
@@ -58,12 +42,6 @@ WritesMarked charset columns nulls from zero bytes text = (bytes ≡ []) × (tex
 WritesMarked charset columns nulls from (suc n) bytes text = (front : List ℕ) × (rest : List ℕ) × (before : List ℕ) × (more : List ℕ)
     × (bytes ≡ front ++ rest) × (text ≡ before ++ more) × WritesMarked charset columns nulls from n front before
     × WritesColumn charset columns nulls (from + n) rest more
-
--- This many columns from one on, of all these and at least one, are NULL by their bit, and this is their text in their line.
-pub record WritesNulls (nulls : ℕ → Bool) (from count n : ℕ) (text : List ℕ) : Type 0 where
-  pub some : 0 < n
-  pub within : from + n ≤ count
-  pub writes : (charset : Charset) (columns : List Column) → length columns ≡ count → WritesMarked charset columns nulls from n [] text
 
 -- Between two places of a row the bytes are the cells, each but those that are NULL by their bit, and this is their text; single-byte text is read in
 -- the row format's set.

@@ -6,20 +6,17 @@ use Rattle.tds_columns.specs.Walking.{columns_left}
 use Rattle.tds_columns.specs.declared.walk.Walk.{Walk}
 use Rattle.std.specs.List.{list_all}
 use Rattle.tds_cells.specs.CellTexts.{is_counted, is_int4}
-use Rattle.tds_cells.specs.Formats.{AreLaidOut, Each}
+use Rattle.tds_cells.specs.Formats.{Each}
+use Rattle.tds_cells.specs.Layouts.{IsLaidOut}
 use Rattle.tds_cells.specs.declared.row_format.Learnt.{Learnt}
 use Rattle.tds_values.specs.declared.charset.Charset.{Charset}
 use Rattle.tds_cells.specs.declared.row_format.Cursor.{Cursor}
 use Rattle.tds_cells.specs.declared.layout.CellFormat.{CellFormat}
 use Rattle.tds_cells.specs.declared.row_format.RowFormat.{RowFormat}
 
--- the kinds of columns
-abbrev pub kinds : List Column → List Kind
-kinds columns = map (λ c. c.kind) columns
-
 -- The row format knows these columns: the kinds of the first ones, how many there are, and the walk over those after them.
 pub record Knows (row_format : RowFormat) (columns : List Column) : Type 0 where
-  pub first : map (λ f. f.kind) (take row_format.known row_format.formats.now) ≡ kinds (take row_format.known columns)
+  pub first : map (λ f. f.kind) (take row_format.known row_format.formats.now) ≡ map (λ c. c.kind) (take row_format.known columns)
   pub counted : row_format.count ≡ length columns
   pub rest : columns_left row_format.rest ≡ drop row_format.known columns
 
@@ -28,8 +25,8 @@ pub record Knows (row_format : RowFormat) (columns : List Column) : Type 0 where
 pub record Learns (columns : List Column) (charset : Charset) (formats : List CellFormat) (learnt : Learnt) : Type 0 where
   pub there : learnt.known ≤ length formats
   pub few : learnt.known ≤ length columns
-  pub first : map (λ f. f.kind) (take learnt.known formats) ≡ kinds (take learnt.known columns)
-  pub laid : AreLaidOut charset formats
+  pub first : map (λ f. f.kind) (take learnt.known formats) ≡ map (λ c. c.kind) (take learnt.known columns)
+  pub laid : Each (λ f. IsLaidOut charset f.kind f.layout) formats
   pub numbers : learnt.only_numbers ≡ true → Each (λ f. is_int4 f.kind ≡ true) formats
   pub counted : learnt.only_counted ≡ true → Each (λ f. is_counted f.kind ≡ true) formats
   pub all : (learnt.known ≡ length formats) ⊎ (learnt.known ≡ length columns)
@@ -40,10 +37,6 @@ pub record Learns (columns : List Column) (charset : Charset) (formats : List Ce
 -- The row format knows some columns, one at least.
 abbrev pub KnowsSome : RowFormat → Type 0
 KnowsSome row_format = (columns : List Column) × Knows row_format columns × (0 < row_format.count)
-
--- The row format knows all columns, one at least.
-abbrev pub KnowsAll : RowFormat → Type 0
-KnowsAll row_format = (row_format.known ≡ row_format.count) × (0 < row_format.count)
 
 -- the place before a column, with this walk
 abbrev pub place : Walk → ℕ → Cursor
@@ -67,19 +60,11 @@ pub record NextColumn (columns : List Column) (at : Cursor) (next_kind : Kind) :
   pub next : drop at.column columns ≡ column ∷ rest
   pub kind : next_kind ≡ column.kind
 
--- A column was taken, the next one ahead, and this is its kind.
-pub record TakesColumn (row_format : RowFormat) (columns : List Column) (old new : Cursor) (next_kind : Kind) : Type 0 where
-  pub column : Column
-  pub next : drop old.column columns ≡ column ∷ drop new.column columns
-  pub kind : next_kind ≡ column.kind
-  pub further : new.column ≡ old.column + 1
-  pub ahead : IsCursor row_format columns new
-
 -- The formats are those of the next columns of a row, none after this number: several that the row format knows, or only one.
 pub record AreAtCursor (row_format : RowFormat) (at : Cursor) (end : ℕ) (formats : List CellFormat) : Type 0 where
-  pub laid : AreLaidOut row_format.charset formats
+  pub laid : Each (λ f. IsLaidOut row_format.charset f.kind f.layout) formats
   pub some : 0 < length formats
   pub within : at.column + length formats ≤ end
   pub known : (at.column + length formats ≤ row_format.known) ⊎ (length formats ≡ 1)
   pub next : (columns : List Column) → Knows row_format columns → IsCursor row_format columns at
-      → map (λ f. f.kind) formats ≡ kinds (take (length formats) (drop at.column columns))
+      → map (λ f. f.kind) formats ≡ map (λ c. c.kind) (take (length formats) (drop at.column columns))

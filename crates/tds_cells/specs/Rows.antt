@@ -8,14 +8,6 @@ use Rattle.tds_text.specs.Quoting.{joined, line}
 use Rattle.tds_values.specs.declared.charset.Charset.{Charset}
 use Rattle.tds_cells.specs.Cells.{Cell, Null, field, shape, SpellsCell, CellPart, WholeCell, cell_start, cell_size, cell_fault, cell_add, field_so_far}
 
--- the first byte of a ROW (MS-TDS, ROW)
-abbrev pub row_byte : ℕ
-row_byte = 0xD1
-
--- the first byte of an NBCROW (MS-TDS, NBCROW)
-abbrev pub nbc_row_byte : ℕ
-nbc_row_byte = 0xD2
-
 -- the tokens of rows
 pub data RowToken : Type 0 where
   -- ROW
@@ -23,22 +15,18 @@ pub data RowToken : Type 0 where
   -- NBCROW
   NbcRow : RowToken
 
--- the first byte of a row
+-- the first byte of a row (MS-TDS, ROW and NBCROW)
 abbrev pub token_byte : RowToken → ℕ
-token_byte PlainRow = row_byte
-token_byte NbcRow = nbc_row_byte
+token_byte PlainRow = 0xD1
+token_byte NbcRow = 0xD2
 
 -- whether the bit k of a bitmap is set, the lowest of the first byte being bit 0
 abbrev pub bit : List ℕ → ℕ → Bool
 bit bitmap k = (slice_index bitmap (k / 8) / 2 ^ (k % 8)) % 2 == 1
 
--- the bytes of a bitmap for this many columns
+-- the bytes of a bitmap for this many columns; for 65,535 they are 8,192
 abbrev pub bitmap_length : ℕ → ℕ
 bitmap_length columns = (columns + 7) / 8
-
--- the most bytes of a bitmap: those for 65,535 columns
-abbrev pub longest_bitmap : ℕ
-longest_bitmap = 8192
 
 -- a column and whether it is NULL by its bit
 abbrev pub marked : List Column → (ℕ → Bool) → ℕ → List (Column × Bool)
@@ -54,22 +42,11 @@ SpellsMarked charset ((k, false) ∷ ks) (c ∷ cs) bytes = (front : List ℕ) �
 SpellsMarked charset [] (c ∷ cs) bytes = ⊥
 SpellsMarked charset ((k, null) ∷ ks) [] bytes = ⊥
 
--- The bytes after the token byte of a ROW spell its cells.
-abbrev pub SpellsRow : Charset → List Column → List Cell → List ℕ → Type 0
-SpellsRow charset columns cells bytes = SpellsMarked charset (marked columns (λ k. false) 0) cells bytes
-
--- The bytes after the token byte of an NBCROW spell its cells: a bitmap, then the cells whose bit is clear.
-pub record SpellsNbcRow (charset : Charset) (columns : List Column) (cells : List Cell) (bytes : List ℕ) : Type 0 where
-  pub bitmap : List ℕ
-  pub rest : List ℕ
-  pub spelt : bytes ≡ bitmap ++ rest
-  pub whole : length bitmap ≡ bitmap_length (length columns)
-  pub each : SpellsMarked charset (marked columns (bit bitmap) 0) cells rest
-
--- The bytes after the token byte of a row spell its cells.
-abbrev pub SpellsRowAs : RowToken → Charset → List Column → List Cell → List ℕ → Type 0
-SpellsRowAs PlainRow charset columns cells bytes = SpellsRow charset columns cells bytes
-SpellsRowAs NbcRow charset columns cells bytes = SpellsNbcRow charset columns cells bytes
+-- The bytes after the token byte of a row spell its cells: of a ROW all of them, of an NBCROW a bitmap, then those whose bit is clear.
+abbrev pub SpellsRow : RowToken → Charset → List Column → List Cell → List ℕ → Type 0
+SpellsRow PlainRow charset columns cells bytes = SpellsMarked charset (marked columns (λ k. false) 0) cells bytes
+SpellsRow NbcRow charset columns cells bytes = (bitmap : List ℕ) × (rest : List ℕ) × (bytes ≡ bitmap ++ rest)
+    × (length bitmap ≡ bitmap_length (length columns)) × SpellsMarked charset (marked columns (bit bitmap) 0) cells rest
 
 -- a row as far as it is read
 pub data RowPart : Type 0 where
@@ -91,18 +68,10 @@ abbrev pub with_cell : Charset → List Cell → List (Column × Bool) → CellP
 with_cell charset cells ks (WholeCell c) = next_cell charset (cells ++ c ∷ []) ks
 with_cell charset cells ks part = InCell cells part ks
 
--- before the first element of a ROW
-abbrev pub row_start : Charset → List Column → RowPart
-row_start charset columns = next_cell charset [] (marked columns (λ k. false) 0)
-
--- before the first element of an NBCROW: its bitmap
-abbrev pub nbc_row_start : List Column → RowPart
-nbc_row_start columns = Bitmap columns
-
--- before the first element of a row
-abbrev pub token_start : RowToken → Charset → List Column → RowPart
-token_start PlainRow charset columns = row_start charset columns
-token_start NbcRow charset columns = nbc_row_start columns
+-- before the first element of a row: of an NBCROW, its bitmap
+abbrev pub row_start : RowToken → Charset → List Column → RowPart
+row_start PlainRow charset columns = next_cell charset [] (marked columns (λ k. false) 0)
+row_start NbcRow charset columns = Bitmap columns
 
 -- how many bytes the next element of a row has; 0 if nothing follows
 abbrev pub row_size : RowPart → ℕ

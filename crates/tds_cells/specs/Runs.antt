@@ -1,6 +1,6 @@
 -- What a run of cells does, which lie whole in the packet.
-use Rattle.std.specs.Prelude.{◌≡◌, ◌==◌, ◌⊎◌, ◌-◌, ◌<◌, ◌≤◌, ℕ, Bool, false, List, [], ◌∷◌, ◌++◌, length, map, take, drop, Option, Some, None, MatchOption}
-use Rattle.std.specs.Prelude.{if◌then◌else◌, min, slice_index}
+use Rattle.std.specs.Prelude.{◌≡◌, ◌==◌, ◌⊎◌, ◌<◌, ◌≤◌, ℕ, Bool, false, List, [], ◌∷◌, ◌++◌, length, map, take, drop, Option, Some, None, MatchOption}
+use Rattle.std.specs.Prelude.{if◌then◌else◌, slice_index}
 use Rattle.tds_values.specs.declared.kind.Kind.{Kind}
 use Rattle.tds_packet.specs.declared.fault.Fault.{Fault}
 use Rattle.tds_packet.specs.declared.fault.Fault.TheVariants.{MessageEnded, RefusedToken}
@@ -19,8 +19,8 @@ use Rattle.tds_cells.specs.declared.row_format.Cursor.{Cursor}
 use Rattle.tds_cells.specs.declared.row_format.RowFormat.{RowFormat}
 use Rattle.tds_cells.specs.Cells.{Cell, field}
 use Rattle.tds_cells.specs.Rows.{PlainRow, RowPart, RowToken, WholeRow, marked, next_cell, row_add, row_fault, row_size, row_so_far, token_byte}
-use Rattle.tds_cells.specs.Rows.{bit, token_start}
-use Rattle.tds_cells.specs.MarkedRuns.{CellsWritten, EndsLeft}
+use Rattle.tds_cells.specs.Rows.{bit, row_start}
+use Rattle.tds_cells.specs.MarkedRuns.{CellsWritten}
 use Rattle.tds_cells.specs.CellTexts.{IsLeft, WritesKind, whole_size}
 use Rattle.tds_cells.specs.WholeCells.{IsCellSpan}
 use Rattle.tds_cells.specs.RowFormats.{IsCursor, Knows, place}
@@ -41,10 +41,6 @@ pub record RowsPart : Type 0 where
   pub before : List (List Cell)
   pub at : RowPart
 
--- before the first element of a row and those that follow it
-abbrev pub rows_start : RowToken → Charset → List Column → RowsPart
-rows_start token charset columns = record { before = []; at = token_start token charset columns }
-
 -- how many bytes the next element of rows has: a token byte after a whole row
 abbrev pub rows_size : RowPart → ℕ
 rows_size (WholeRow cells) = 1
@@ -57,7 +53,7 @@ rows_fault token part element = row_fault part element
 
 -- the state after an element of rows
 abbrev pub rows_add : RowToken → Charset → List Column → List (List Cell) → RowPart → List ℕ → RowsPart
-rows_add token charset columns before (WholeRow cells) element = record { before = before ++ cells ∷ []; at = token_start token charset columns }
+rows_add token charset columns before (WholeRow cells) element = record { before = before ++ cells ∷ []; at = row_start token charset columns }
 rows_add token charset columns before part element = record { before = before; at = row_add charset part element }
 
 -- How rows of one token are read, one after another.
@@ -129,13 +125,6 @@ pub record Ran (row_format : RowFormat) (nulls : Nulls) (from to : Cursor) (byte
   pub made : run.made ≤ length text
   pub few : run.rows ≤ run.used
   pub writes : RunWritten row_format nulls from to run.rows (take run.used bytes) (take run.made text)
-
--- A run within a row ended so: with a bitmap as one over rows does, and else so if it used no byte, and before the columns that the row format knows.
-abbrev pub EndsInRow : RowFormat → Nulls → Cursor → Cursor → List ℕ → ℕ → Span → Type 0
-EndsInRow row_format Unmarked from to bytes room run =
-    (run.used ≡ 0 → from.column < row_format.count → EndsLeft row_format (λ k. false) from bytes room)
-    × LeavesNext row_format from to (min row_format.known row_format.count) (drop run.used bytes) (room - run.made)
-EndsInRow row_format (Marked bitmap) from to bytes room run = EndsLeft row_format (bit bitmap.now) to (drop run.used bytes) (room - run.made)
 
 -- A run over rows all of whose columns the row format knows did so from this column on, whatever the walk.
 pub record KnownRan (row_format : RowFormat) (column : ℕ) (bytes text : List ℕ) (run : KnownRun) : Type 0 where

@@ -1,12 +1,13 @@
 // Cells of NBCROWs that are whole in the packet or NULL by their bit (MS-TDS, NBCROW).
-ghost use Rattle.std.specs.Prelude.{true, false, List, ◌≡◌, ◌+◌, ◌-◌, ◌*◌, ◌<◌, ◌≤◌, drop, length, take};
+ghost use Rattle.std.specs.Prelude.{true, false, List, [], ◌≡◌, ◌+◌, ◌-◌, ◌*◌, ◌<◌, ◌≤◌, ◌≢◌, drop, length, min, take};
 ghost use Rattle.tds_cells.specs.MarkedRows.{EndsNbcRows, WritesWholeRows};
-ghost use Rattle.tds_cells.specs.MarkedRuns.{BitsAre, CellsWritten, Covers, EndsClear, EndsFar, EndsLeft, WritesNulls, nulls_of};
-ghost use Rattle.tds_cells.specs.Runs.{EndsInRow, Ran};
+ghost use Rattle.tds_cells.specs.MarkedRuns.{BitsAre, CellsWritten, Covers, EndsFar, EndsLeft, WritesMarked, nulls_of};
+ghost use Rattle.tds_cells.specs.Runs.{LeavesNext, Ran};
 ghost use Rattle.tds_cells.specs.declared.nulls.Nulls.TheVariants.{Unmarked};
 ghost use Rattle.tds_columns.specs.Description.{Column};
-ghost use Rattle.tds_cells.specs.Rows.{bit, bitmap_length, longest_bitmap};
-ghost use Rattle.tds_cells.specs.RowFormats.{BeginsRow, Knows, KnowsAll};
+ghost use Rattle.tds_values.specs.declared.charset.Charset.{Charset};
+ghost use Rattle.tds_cells.specs.Rows.{bit, bitmap_length};
+ghost use Rattle.tds_cells.specs.RowFormats.{BeginsRow, Knows};
 
 use crate::row_format::{Cursor, RowFormat};
 use crate::run::RowsSpan;
@@ -21,7 +22,7 @@ pub const NBCROW: u8 = 0xD2;
 /// How many bytes the bitmap of `columns` columns has.
 pub fn bitmap_size(columns: u16) -> usize
     ensures value { result ≡ bitmap_length columns }
-    ensures most { result ≤ longest_bitmap }
+    ensures most { result ≤ 8192 }
 {
     (columns as usize + 7) / 8
 }
@@ -62,7 +63,9 @@ fn clear_end(bitmap: &[u8], from: u16, known: u16, count: u16) -> u16
     requires within { from ≤ count }
     requires most { known ≤ count }
     requires clear { BitsAre false (bit bitmap.now) from known }
-    ensures { EndsClear (bit bitmap.now) from count result }
+    ensures within { (from ≤ result) × (result ≤ count) }
+    ensures clear { BitsAre false (bit bitmap.now) from result }
+    ensures set { result < count → bit bitmap.now result ≡ true }
 {
     let mut at = from.max(known) as usize;
     while at < count as usize {
@@ -118,7 +121,9 @@ fn write_nulls(bitmap: &[u8], column: u16, count: u16, most: usize, to: &mut [u8
     requires most { 0 < most }
     requires room { CELL_ROOM ≤ length to.old }
     ensures most { (result.columns ≤ most) × (result.made ≤ 40) }
-    ensures nulls { WritesNulls (bit bitmap.now) column count result.columns (take result.made to.new) }
+    ensures within { (0 < result.columns) × (column + result.columns ≤ count) }
+    ensures nulls { (charset : Charset) (columns : List Column) → length columns ≡ count →
+        WritesMarked charset columns (bit bitmap.now) column result.columns [] (take result.made to.new) }
 {
     let columns = nulls_ahead(bitmap, column, count).min(most);
     if columns < 2 || column == 0 {
@@ -194,7 +199,8 @@ impl<'a> RowFormat<'a> {
     /// next, or the last without one.
     #[inline(never)]
     pub fn run_far_rows(&self, bytes: &[u8], to: &mut [u8]) -> WholeRows
-        requires known { KnowsAll self.now }
+        requires all { self.now.known ≡ self.now.count }
+        requires some { 0 < self.now.count }
         ensures used { result.span.used ≤ length bytes.now }
         ensures made { result.span.made ≤ length to.old }
         ensures few { result.span.rows ≤ result.span.used }
@@ -319,7 +325,12 @@ impl<'a> RowFormat<'a> {
         requires covers { Covers nulls self.now.count }
         ensures used { result.used ≤ length bytes.now }
         ensures made { result.made ≤ length to.old }
-        ensures ends { EndsInRow self.now nulls.entry at.old at.new bytes.now (length to.old) result }
+        ensures ends { nulls.entry ≡ Unmarked → result.used ≡ 0 → at.old.column < self.now.count →
+            EndsLeft self.now (nulls_of Unmarked) at.old bytes.now (length to.old) }
+        ensures left { nulls.entry ≡ Unmarked → LeavesNext self.now at.old at.new (min self.now.known self.now.count)
+            (drop result.used bytes.now) (length to.old - result.made) }
+        ensures marked { nulls.entry ≢ Unmarked → EndsLeft self.now (nulls_of nulls.entry) at.new
+            (drop result.used bytes.now) (length to.old - result.made) }
         ensures cells { CellsWritten self.now (nulls_of nulls.entry) at.old at.new
             (take result.used bytes.now) (take result.made to.new) }
     {

@@ -1,8 +1,8 @@
 // What the cells of a description's columns need of them, known once for all its rows.
 ghost use Rattle.std.specs.Prelude.{[], ◌≡◌, ◌==◌, ◌&&◌, ◌⊎◌, ◌+◌, ◌-◌, ◌<◌, ◌≤◌, drop, length, take, true, false, IfSome, List, MatchOption, min};
 ghost use Rattle.tds_cells.specs.CellTexts.{is_counted, is_int4};
-ghost use Rattle.tds_cells.specs.Formats.{AreLaidOut, Each};
 ghost use Rattle.tds_values.specs.declared.charset.Charset.{Charset};
+ghost use Rattle.tds_cells.specs.Formats.{Each};
 ghost use Rattle.tds_cells.specs.Layouts.{IsLaidOut};
 
 use crate::layout::{CellFormat, Layout};
@@ -49,7 +49,7 @@ pub struct RowFormat<'a> {
     ghost there: { known ≤ length formats.now },
     ghost few: { known ≤ count },
     ghost fits: { count ≤ 65535 },
-    ghost laid: { AreLaidOut charset formats.now },
+    ghost laid: { Each (λ f. IsLaidOut charset f.kind f.layout) formats.now },
     ghost numbers: { only_numbers ≡ true → Each (λ f. is_int4 f.kind ≡ true) formats.now },
     ghost counted: { only_counted ≡ true → Each (λ f. is_counted f.kind ≡ true) formats.now },
 }
@@ -87,14 +87,14 @@ pub struct Cursor<'a> {
 impl<'a> RowFormat<'a> {
     ghost use Rattle.tds_columns.specs.Description as spec;
     ghost use Rattle.tds_columns.specs.View.{columns_of};
-    ghost use Rattle.tds_cells.specs.RowFormats.{AreAtCursor, BeginsRow, IsCursor, Knows, Learns, NextColumn, TakesColumn, place};
+    ghost use Rattle.tds_cells.specs.RowFormats.{AreAtCursor, BeginsRow, IsCursor, Knows, Learns, NextColumn, place};
     ghost use Rattle.tds_columns.specs.declared.walk.Walk.{Walk};
 
     /// Learns what the cells of a description's first columns need, as many as there is room for, if single-byte text is in this set.
     #[inline(always)]
     pub fn learn(columns: Columns<'a>, charset: Charset, formats: &mut [CellFormat]) -> Learnt<'a>
         requires few { length formats.old ≤ 1024 }
-        requires laid { AreLaidOut charset formats.old }
+        requires laid { Each (λ f. IsLaidOut charset f.kind f.layout) formats.old }
         requires numbers { Each (λ f. is_int4 f.kind ≡ true) formats.old }
         requires counted { Each (λ f. is_counted f.kind ≡ true) formats.old }
         ensures { Learns (columns_of columns.entry.bytes.now) charset formats.new result }
@@ -344,12 +344,12 @@ impl<'a> RowFormat<'a> {
     /// What the next cell needs, and the place after it. `None` at the row's end.
     #[inline(always)]
     pub fn next(&self, at: Cursor<'a>) -> Option<(CellFormat, Cursor<'a>)>
-        ensures further { IfSome result (λ taken. at.entry.column < taken.1.column) }
+        ensures further { IfSome result (λ taken. taken.1.column ≡ at.entry.column + 1) }
         ensures within { IfSome result (λ taken. taken.1.column ≤ self.now.count) }
         ensures laid { IfSome result (λ taken. IsLaidOut self.now.charset taken.0.kind taken.0.layout) }
         ensures taken { (columns : List spec.Column) → Knows self.now columns → IsCursor self.now columns at.entry →
             MatchOption result (drop at.entry.column columns ≡ [])
-            (λ taken. TakesColumn self.now columns at.entry taken.1 taken.0.kind) }
+            (λ taken. NextColumn columns at.entry taken.0.kind × IsCursor self.now columns taken.1) }
     {
         if at.column >= self.count {
             return None;

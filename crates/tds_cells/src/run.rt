@@ -7,8 +7,8 @@ ghost use Rattle.tds_cells.specs.FormatRuns.{NumbersEnd};
 ghost use Rattle.tds_cells.specs.Layouts.{IsLaidOut};
 ghost use Rattle.tds_cells.specs.declared.nulls.Nulls.TheVariants.{Unmarked};
 ghost use Rattle.tds_cells.specs.Runs.{AloneWritten, KnownRan, LeavesNext, Ran, StaysWithin};
-ghost use Rattle.tds_cells.specs.MarkedRuns.{CellsWritten, EndsFar, EndsLeft, none_null};
-ghost use Rattle.tds_cells.specs.RowFormats.{AreAtCursor, BeginsRow, KnowsAll, place};
+ghost use Rattle.tds_cells.specs.MarkedRuns.{CellsWritten, EndsFar, EndsLeft, nulls_of};
+ghost use Rattle.tds_cells.specs.RowFormats.{AreAtCursor, BeginsRow, place};
 ghost use Rattle.tds_columns.specs.declared.walk.Walk.{Walk};
 ghost use Rattle.tds_text.specs.Quoting.{after_comma};
 
@@ -122,10 +122,10 @@ impl<'a> RowFormat<'a> {
         requires within { end ≤ self.now.count }
         requires ahead { AreAtCursor self.now at.old end formats.now }
         ensures within { StaysWithin at.old at.new end (length bytes.now) (length to.old) result }
-        ensures ends { result.used ≡ 0 → EndsLeft self.now none_null at.old bytes.now (length to.old) }
+        ensures ends { result.used ≡ 0 → EndsLeft self.now (nulls_of Unmarked) at.old bytes.now (length to.old) }
         ensures left { LeavesNext self.now at.old at.new (at.old.column + length formats.now)
             (drop result.used bytes.now) (length to.old - result.made) }
-        ensures cells { CellsWritten self.now none_null at.old at.new
+        ensures cells { CellsWritten self.now (nulls_of Unmarked) at.old at.new
             (take result.used bytes.now) (take result.made to.new) }
     {
         let ends = self.ends_after(*at, formats);
@@ -144,8 +144,8 @@ impl<'a> RowFormat<'a> {
         requires within { end ≤ self.now.count }
         requires some { at.old.column < end }
         ensures within { StaysWithin at.old at.new end (length bytes.now) (length to.old) result }
-        ensures ends { result.used ≡ 0 → EndsLeft self.now none_null at.old bytes.now (length to.old) }
-        ensures cells { CellsWritten self.now none_null at.old at.new
+        ensures ends { result.used ≡ 0 → EndsLeft self.now (nulls_of Unmarked) at.old bytes.now (length to.old) }
+        ensures cells { CellsWritten self.now (nulls_of Unmarked) at.old at.new
             (take result.used bytes.now) (take result.made to.new) }
     {
         let Some(format) = self.format(*at) else {
@@ -169,10 +169,10 @@ impl<'a> RowFormat<'a> {
         requires within { end ≤ self.now.count }
         ensures within { StaysWithin at.old at.new end (length bytes.now) (length to.old) result }
         ensures ends { result.used ≡ 0 → at.old.column < end →
-            EndsLeft self.now none_null at.old bytes.now (length to.old) }
+            EndsLeft self.now (nulls_of Unmarked) at.old bytes.now (length to.old) }
         ensures left { LeavesNext self.now at.old at.new (min self.now.known end)
             (drop result.used bytes.now) (length to.old - result.made) }
-        ensures cells { CellsWritten self.now none_null at.old at.new
+        ensures cells { CellsWritten self.now (nulls_of Unmarked) at.old at.new
             (take result.used bytes.now) (take result.made to.new) }
     {
         if let Some(formats) = (&*self).formats(*at, end) {
@@ -213,7 +213,8 @@ impl<'a> RowFormat<'a> {
     // for any row. `COUNTED` says that all come after their lengths.
     #[inline(never)]
     fn run_numbers<const COUNTED: bool>(&self, bytes: &[u8], to: &mut [u8]) -> KnownRun
-        requires known { KnowsAll self.now }
+        requires all { self.now.known ≡ self.now.count }
+        requires some { 0 < self.now.count }
         requires numbers { self.now.only_numbers ≡ true }
         requires counted { COUNTED ≡ true → self.now.only_counted ≡ true }
         ensures ends { let row = take self.now.known self.now.formats.now in
@@ -250,8 +251,9 @@ impl<'a> RowFormat<'a> {
     // far enough for any scalar. After a cell that isn't a row's last comes the comma of the next one.
     #[inline(always)]
     fn run_unchecked(&self, column: u16, bytes: &[u8], to: &mut [u8]) -> KnownRun
-        requires known { KnowsAll self.now }
-        ensures ends { (walk : Walk) → EndsFar self.now none_null (place walk result.column)
+        requires all { self.now.known ≡ self.now.count }
+        requires some { 0 < self.now.count }
+        ensures ends { (walk : Walk) → EndsFar self.now (nulls_of Unmarked) (place walk result.column)
             (drop result.used bytes.now) (length to.old - result.made) }
         ensures rows { KnownRan self.now column bytes.now to.new result }
     {
@@ -293,11 +295,12 @@ impl<'a> RowFormat<'a> {
     // are whole numbers of four bytes, and as `run_unchecked` does if not all are.
     #[inline(always)]
     fn run_fast<const INT4: bool>(&self, column: u16, bytes: &[u8], to: &mut [u8]) -> KnownRun
-        requires known { KnowsAll self.now }
+        requires all { self.now.known ≡ self.now.count }
+        requires some { 0 < self.now.count }
         requires numbers { INT4 ≡ true → self.now.only_numbers ≡ true }
         ensures numbers { INT4 ≡ true → column ≡ 0 → let row = take self.now.known self.now.formats.now in
             NumbersEnd row result.column (drop result.used bytes.now) (length to.old - result.made) }
-        ensures ends { INT4 ≡ false → (walk : Walk) → EndsFar self.now none_null (place walk result.column)
+        ensures ends { INT4 ≡ false → (walk : Walk) → EndsFar self.now (nulls_of Unmarked) (place walk result.column)
             (drop result.used bytes.now) (length to.old - result.made) }
         ensures rows { KnownRan self.now column bytes.now to.new result }
     {
@@ -317,9 +320,10 @@ impl<'a> RowFormat<'a> {
     // chunks and have room, over the ends of rows. `NUMBERS` says that all their values are whole numbers of four bytes.
     #[inline(never)]
     fn run_known<const NUMBERS: bool>(&self, from: u16, bytes: &[u8], to: &mut [u8]) -> KnownRun
-        requires known { KnowsAll self.now }
+        requires all { self.now.known ≡ self.now.count }
+        requires some { 0 < self.now.count }
         requires numbers { NUMBERS ≡ true → self.now.only_numbers ≡ true }
-        ensures ends { (walk : Walk) → EndsLeft self.now none_null (place walk result.column)
+        ensures ends { (walk : Walk) → EndsLeft self.now (nulls_of Unmarked) (place walk result.column)
             (drop result.used bytes.now) (length to.old - result.made) }
         ensures last { result.column ≡ self.now.count → BeginsRow (drop result.used bytes.now) → ⊥ }
         ensures rows { KnownRan self.now from bytes.now to.new result }
@@ -364,7 +368,8 @@ impl<'a> RowFormat<'a> {
     #[inline(never)]
     fn run_partly_known(&self, at: &mut Cursor<'a>, bytes: &[u8], to: &mut [u8]) -> RowsSpan
         requires some { 0 < self.now.count }
-        ensures ends { EndsLeft self.now none_null at.new (drop result.used bytes.now) (length to.old - result.made) }
+        ensures ends { EndsLeft self.now (nulls_of Unmarked) at.new
+            (drop result.used bytes.now) (length to.old - result.made) }
         ensures last { at.new.column ≡ self.now.count → BeginsRow (drop result.used bytes.now) → ⊥ }
         ensures rows { Ran self.now Unmarked at.old at.new bytes.now to.new result }
     {
@@ -396,7 +401,8 @@ impl<'a> RowFormat<'a> {
     pub(crate) fn run_rows(&self, at: &mut Cursor<'a>, bytes: &[u8], to: &mut [u8]) -> RowsSpan
         requires some { 0 < self.now.count }
         requires room { CELL_ROOM ≤ length to.old }
-        ensures ends { EndsLeft self.now none_null at.new (drop result.used bytes.now) (length to.old - result.made) }
+        ensures ends { EndsLeft self.now (nulls_of Unmarked) at.new
+            (drop result.used bytes.now) (length to.old - result.made) }
         ensures last { at.new.column ≡ self.now.count → BeginsRow (drop result.used bytes.now) → ⊥ }
         ensures rows { Ran self.now Unmarked at.old at.new bytes.now to.new result }
     {

@@ -1,14 +1,13 @@
 // A cell that is whole in the packet: its bytes are together. A value in chunks has one at most.
 ghost use Rattle.std.specs.Prelude.{◌≡◌, ◌==◌, ◌+◌, ◌-◌, ◌<◌, ◌≤◌, ℕ, drop, length, take, is_ok, false, true, None, Some, IfErr, IfSome, IsTrue, MatchOption, if◌then◌else◌};
 ghost use Rattle.std.specs.Result.{result_ok};
-ghost use Rattle.tds_cells.specs.CellTexts.{CellWritten, HasInt4, IsLeftFor, WritesField, is_counted, is_int4, whole_size};
-ghost use Rattle.tds_values.specs.Front.{value_bytes};
+ghost use Rattle.tds_cells.specs.CellTexts.{CellWritten, IsLeftFor, WritesField, is_counted, is_int4, whole_size};
+ghost use Rattle.tds_values.specs.Front.{value_bytes, value_length, value_start};
 ghost use Rattle.tds_values.specs.Scalar.{read_of};
 ghost use Rattle.tds_values.specs.declared.charset.Charset.{Charset};
 ghost use Rattle.tds_cells.specs.Cells.{LongShape, shape};
-ghost use Rattle.tds_cells.specs.ChunkedCells.{HasOneChunk, chunk_end};
 ghost use Rattle.byteorder.specs.Endian.{little_number};
-ghost use Rattle.tds_cells.specs.LongFields.{LongWritten};
+ghost use Rattle.tds_cells.specs.LongFields.{HasOneChunk, LongWritten, chunk_end};
 ghost use Rattle.tds_values.specs.declared.kind.Reach.{Reach};
 ghost use Rattle.tds_values.specs.Kind.{is_scalar};
 ghost use Rattle.tds_values.specs.declared.kind.Kind.{Kind};
@@ -357,7 +356,8 @@ pub(crate) const NUMBER_ROOM: usize = INTEGER_ROOM;
 // Writes the field of a cell whose value is a whole number of four bytes, so far after its front.
 #[inline(always)]
 fn write_int4_at(kind: &Kind, start: usize, bytes: &[u8], to: &mut [u8]) -> Span
-    requires there { HasInt4 kind.now start bytes.now }
+    requires number { (is_int4 kind.now ≡ true) × (value_length kind.now bytes.now ≡ 4) }
+    requires start { (start ≡ value_start kind.now) × (start + 4 ≤ length bytes.now) }
     requires room { NUMBER_ROOM ≤ length to.old }
     ensures used { result.used ≡ start + 4 }
     ensures made { result.made ≤ 11 }

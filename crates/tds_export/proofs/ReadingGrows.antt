@@ -12,8 +12,8 @@ IsFresh at = N.⊤
 
 -- the cases of what a byte begins
 pub lead_cases : (charset : N.Charset) (P : Part → Type 0) (tokens : List Token) (begun : N.Option N.Lead)
-    → ((at : Open) → IsFresh at → P (part_at tokens at)) → P (N.start_of_row tokens (N.row_start charset) (N.described_after None tokens))
-    → P (N.start_of_row tokens N.nbc_row_start (N.described_after None tokens)) → P (N.after_first charset tokens begun)
+    → ((at : Open) → IsFresh at → P (part_at tokens at)) → P (N.start_of_row tokens (N.row_start N.PlainRow charset) (N.described_after None tokens))
+    → P (N.start_of_row tokens (N.row_start N.NbcRow charset) (N.described_after None tokens)) → P (N.after_first charset tokens begun)
 lead_cases = grind arith
 
 -- ---- the text

@@ -289,7 +289,7 @@ module _ (charset : N.Charset) (room : ℕ) where
   row_token_is_read {tokens} (Some columns) cells {bytes} is some (rest, N.inl h) =
       lead_then N.ARow h.0 (cc) (rw is (spelt_inside (row_agrees _) (N.row_is_read _ _ _ _ h.1)))
   row_token_is_read {tokens} (Some columns) cells {bytes} is some (rest, N.inr h) =
-      lead_then N.AnNbcRow h.0 (cc) (rw is (spelt_inside (row_agrees _) (N.nbc_row_is_read _ _ _ _ (omega arith) h.1)))
+      lead_then N.AnNbcRow h.0 (cc) (rw is (spelt_inside (row_agrees _) (N.nbc_row_is_read _ columns cells rest (omega arith) h.1)))
 
   -- what spells a token is read as it
   token_is_read : {tokens : List Token} (t : Token) {bytes : List ℕ} → HasColumns (described_after None tokens)

@@ -118,8 +118,7 @@ module _ (charset : N.Charset) (room : ℕ) where
       → current ≡ Some columns → IsFirst (row_lead nbc) first → N.RowMeans charset columns nbc (N.WholeRow cells) rest
       → N.SpellsRowToken charset current cells (first ∷ rest)
   row_token false cells first rest e begins h = grind arith
-  row_token true cells first rest e begins h =
-      rw e (rest, N.inr ((first, refl, begins), record { bitmap = h.0; rest = h.1; spelt = h.2; whole = h.3; each = h.4 }))
+  row_token true cells first rest e begins h = rw e (rest, N.inr ((first, refl, begins), h))
 
   with_row_means : {tokens : List Token} (part : N.RowPart) {b : List ℕ} {columns : List Column} (nbc : Bool)
       → described_after None tokens ≡ Some columns → AfterLead tokens (row_lead nbc) (N.RowMeans charset columns nbc part) b
@@ -134,7 +133,7 @@ module _ (charset : N.Charset) (room : ℕ) where
 
   row_begins : (tokens : List Token) (b : List ℕ) (x : ℕ) (current : Option (List Column)) → described_after None tokens ≡ current
       → N.row_byte_fault true current ≡ None → SpellsTokens charset room None tokens b → N.lead_of x ≡ Some N.ARow
-      → PartMeans (N.start_of_row tokens (N.row_start charset) current) (b ++ x ∷ [])
+      → PartMeans (N.start_of_row tokens (N.row_start N.PlainRow charset) current) (b ++ x ∷ [])
   row_begins tokens b x None e f h begins = cc
   row_begins tokens b x (Some columns) e f h begins =
       with_row_means _ _ e (record { front = b; first = x; rest = []; spelt = refl; before = h; begins = grind arith; follows = N.row_start_means _ _ })

@@ -49,7 +49,7 @@ module _ (column : ℕ) where
   cell_more (N.WholeCell x) bytes n = omega arith
   cell_more (N.ShortData c left content) bytes n = grind (arith, N.and_parts, choose, N.last_fit, long_more, open_more, N.unless_none)
   cell_more (N.ChunkLength c total content) {e} bytes n = choose (λ p. FieldMore (Some (N.open_field c content)) (N.field_so_far p)) _ _ _
-      (λ z. let fit = N.end_fit column c total content (N.little e) n.free z in let end = long_more c content fit
+      (λ z. let fit = N.end_fit column c total content e n.free z in let end = long_more c content fit
       (N.fit_begins c content [] (rw (N.append-nil content) fit)) in omega arith) (λ z. omega arith)
   cell_more (N.ChunkData c total left content) bytes n = grind (arith, choose, open_more, N.unless_none)
 
@@ -134,7 +134,7 @@ with_row_grown = grind (arith, length-append, N.append-nil, begun_after, text_af
 
 module _ (charset : N.Charset) (room : ℕ) where
   -- a row that begins has at most the end of its line
-  row_starts : (columns : List Column) → row_length (N.row_start charset columns) ≤ 2
+  row_starts : (columns : List Column) → row_length (N.row_start N.PlainRow charset columns) ≤ 2
   row_starts = grind (arith, next_length, none_null)
 
   -- what has just begun adds nothing

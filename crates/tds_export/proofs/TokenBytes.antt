@@ -36,11 +36,11 @@ module _ (which : N.RowToken) (charset : Charset) (room : ℕ) (all : List N.Col
 
     -- what is read of rows from their start on and put, is read of the response and put
     abbrev rows_stream : {t : RowsPart} {a b : PayloadView} {h j : SinkView}
-        → N.Streams (rows which charset all) N.rows_so_far (N.rows_start which charset all) a b h j t
-        → N.Streams (response charset room) N.text_so_far (with_row tokens (N.token_start which charset all)) a b h j (in_rows t)
+        → N.Streams (rows which charset all) N.rows_so_far (record { before = []; at = N.row_start which charset all }) a b h j t
+        → N.Streams (response charset room) N.text_so_far (with_row tokens (N.row_start which charset all)) a b h j (in_rows t)
     rows_stream {t} x =
-        let s = N.rows_start which charset all in
-        let begins = ap (λ ts. with_row ts (N.token_start which charset all)) (N.append-nil tokens) in
+        let s : RowsPart = record { before = []; at = N.row_start which charset all } in
+        let begins = ap (λ ts. with_row ts (N.row_start which charset all)) (N.append-nil tokens) in
         let same = ap (λ l. l ++ x.puts.0) (ap N.text_so_far (sym begins) ∙ in_rows_text s) ∙ append_assoc (text tokens) (N.rows_so_far s) x.puts.0
         ∙ ap (λ l. text tokens ++ l) x.puts.1 ∙ sym (in_rows_text t) in
         let spelt = N.Spelt-induct _ (λ p b. N.Spelt (response charset room) (in_rows s) b (in_rows p))
@@ -82,7 +82,7 @@ module _ (which : N.RowToken) (charset : Charset) {columns : List N.Column} {aft
     (described : s.described ≡ true) (shown : columns ≡ columns_of u.area.bytes) (begun : OpenTexts tokens s u) where
   -- rows were read, and their lines put
   pub rows_read : {place count : ℕ} → N.ReadsRows which charset columns count u.seen b u.place place u.held after
-      → N.ReadsNext charset (with_row tokens (N.token_start which charset (columns_of u.area.bytes))) tokens u
+      → N.ReadsNext charset (with_row tokens (N.row_start which charset (columns_of u.area.bytes))) tokens u
       (record u { seen = b; place = place; held = after }) (with_rows s count)
   rows_read y =
       let x = rw shown at y in
@@ -100,7 +100,7 @@ module _ (which : N.RowToken) (charset : Charset) {columns : List N.Column} {aft
 
   -- their reading stopped
   pub rows_stop : {failed : Bool} {stop : Stop} → N.RowsStop which charset columns u.seen b u.place u.held after failed stop
-      → N.StopsIn charset (with_row tokens (N.token_start which charset (columns_of u.area.bytes))) u
+      → N.StopsIn charset (with_row tokens (N.row_start which charset (columns_of u.area.bytes))) u
       (record u { seen = b; held = after; failed = failed }) stop
   rows_stop y =
       let x = rw shown at y in

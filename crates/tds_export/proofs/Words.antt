@@ -106,10 +106,9 @@ pub use Rattle.tds_cells.proofs.RowTexts.{start_quiet}
 pub use Rattle.tds_cells.specs.Cells.{Cell, Null, ScalarCell, DataCell, shape, CellPart, ScalarBytes, ScalarLength, ShortLength, ShortData, Total, ChunkLength}
 pub use Rattle.tds_cells.specs.Cells.{ChunkData, WholeCell}
 pub use Rattle.tds_cells.specs.Cells.{cell_start, cell_add, cell, within_total, is_total, return_charset, field, field_so_far}
-pub use Rattle.tds_cells.specs.Rows.{RowPart, WholeRow, row, marked, bit, bitmap_length, Bitmap, InCell, next_cell, with_cell, row_start, nbc_row_start}
+pub use Rattle.tds_cells.specs.Rows.{RowPart, WholeRow, row, marked, bit, bitmap_length, Bitmap, InCell, next_cell, with_cell, row_start, NbcRow, PlainRow}
 pub use Rattle.tds_cells.specs.Rows.{row_so_far, RowToken}
-pub use Rattle.tds_cells.specs.Rows.{token_start}
-pub use Rattle.tds_cells.specs.Runs.{RowsPart, lines, rows, rows_so_far, rows_start}
+pub use Rattle.tds_cells.specs.Runs.{RowsPart, lines, rows, rows_so_far}
 pub use Rattle.tds_rows.proofs.Successes.{rose}
 pub use Rattle.tds_rows.specs.PassedCells.{PassesCell, StopsPassing}
 pub use Rattle.tds_rows.specs.RowSteps.{ReadsRows, RowsStop}

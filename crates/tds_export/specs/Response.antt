@@ -4,7 +4,7 @@ use Rattle.tds_values.specs.Numbers.{little}
 use Rattle.tds_columns.specs.Description.{Column, SpellsDescription}
 use Rattle.tds_values.specs.declared.charset.Charset.{Charset}
 use Rattle.tds_cells.specs.Cells.{Cell}
-use Rattle.tds_cells.specs.Rows.{SpellsRow, SpellsNbcRow}
+use Rattle.tds_cells.specs.Rows.{NbcRow, PlainRow, SpellsRow}
 use Rattle.tds_packet.specs.Packets.{Packet, Message, payload_of}
 use Rattle.tds_export.specs.TokenBytes.{APassed, AnOrder, AnEnvChange, AnError, AnInfo, AStatus, ADone, ADoneInProc, Lead, AMetadata, ARow, AnNbcRow}
 use Rattle.tds_export.specs.TokenBytes.{AReturn, WithBody, WithFields}
@@ -59,8 +59,8 @@ SpellsMore false fields = slice_index fields 0 % 2 ≡ 0
 abbrev pub SpellsRowToken : Charset → Option (List Column) → List Cell → List ℕ → Type 0
 SpellsRowToken charset None cells bytes = ⊥
 SpellsRowToken charset (Some columns) cells bytes = (rest : List ℕ)
-    × ((StartsToken ARow rest bytes × SpellsRow charset columns cells rest)
-    ⊎ (StartsToken AnNbcRow rest bytes × SpellsNbcRow charset columns cells rest))
+    × ((StartsToken ARow rest bytes × SpellsRow PlainRow charset columns cells rest)
+    ⊎ (StartsToken AnNbcRow rest bytes × SpellsRow NbcRow charset columns cells rest))
 
 -- The bytes spell the token if these columns are described.
 abbrev pub SpellsToken : Charset → ℕ → Option (List Column) → Token → List ℕ → Type 0

@@ -15,7 +15,7 @@ use Rattle.tds_columns.specs.View.{columns_of}
 use Rattle.tds_csv.specs.Sinks.{SinkView, Finishes, FinishFails}
 use Rattle.tds_csv.specs.Streaming.{PutsText, Streams, WritesPrefixStreaming}
 use Rattle.tds_values.specs.declared.charset.Charset.{Charset}
-use Rattle.tds_cells.specs.Rows.{nbc_row_byte, nbc_row_start, row_start, row_byte}
+use Rattle.tds_cells.specs.Rows.{Bitmap, NbcRow, PlainRow, row_start, token_byte}
 use Rattle.tds_export.specs.TokenBytes.{APassed, AnEnvChange, AnError, AnInfo, AnOrder, Bodied, Fixed, AStatus, ADone, ADoneInProc, Lead, AMetadata}
 use Rattle.tds_export.specs.TokenBytes.{ARow, AnNbcRow, WithBody, WithFields, AReturn, lead_of}
 use Rattle.tds_export.specs.declared.progress.Progress.{Progress}
@@ -101,7 +101,7 @@ IsOfKind described byte kind = (lead_of byte ≡ Some (lead kind)) × IsUnder de
 abbrev pub IsRefusedByte : Bool → ℕ → Fault → Type 0
 IsRefusedByte described byte fault =
     ((fault ≡ RefusedToken byte) × (lead_of byte ≡ None))
-    ⊎ ((fault ≡ RowWithoutColumns) × (described ≡ false) × ((byte ≡ row_byte) ⊎ (byte ≡ nbc_row_byte)))
+    ⊎ ((fault ≡ RowWithoutColumns) × (described ≡ false) × ((byte ≡ token_byte PlainRow) ⊎ (byte ≡ token_byte NbcRow)))
 
 -- after the token byte of a COLMETADATA
 abbrev pub in_metadata : List Token → Part
@@ -109,11 +109,11 @@ in_metadata tokens = record { tokens = tokens; at = Describing BeforeCount }
 
 -- after the token byte of a ROW under these columns
 abbrev pub in_row : Charset → List Column → List Token → Part
-in_row charset columns tokens = with_row tokens (row_start charset columns)
+in_row charset columns tokens = with_row tokens (row_start PlainRow charset columns)
 
 -- after the token byte of an NBCROW under these columns
 abbrev pub in_nbc_row : List Column → List Token → Part
-in_nbc_row columns tokens = with_row tokens (nbc_row_start columns)
+in_nbc_row columns tokens = with_row tokens (Bitmap columns)
 
 -- after the token byte of a token with fields of a fixed length
 abbrev pub in_fields : Fixed → List Token → Part

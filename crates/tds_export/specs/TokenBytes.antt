@@ -1,6 +1,6 @@
 -- The first bytes of tokens, and what they begin (MS-TDS, Packet Data Token Stream Definition). Those of a ROW and an NBCROW are with their cells.
 use Rattle.std.specs.Prelude.{◌==◌, ℕ, Bool, true, false, Option, Some, None, if◌then◌else◌}
-use Rattle.tds_cells.specs.Rows.{nbc_row_byte, row_byte}
+use Rattle.tds_cells.specs.Rows.{NbcRow, PlainRow, token_byte}
 
 -- of a COLMETADATA
 abbrev pub colmetadata_byte : ℕ
@@ -73,8 +73,8 @@ pub data Lead : Type 0 where
 abbrev pub lead_of : ℕ → Option Lead
 lead_of byte =
     if byte == colmetadata_byte then Some AMetadata
-    else if byte == row_byte then Some ARow
-    else if byte == nbc_row_byte then Some AnNbcRow
+    else if byte == token_byte PlainRow then Some ARow
+    else if byte == token_byte NbcRow then Some AnNbcRow
     else if byte == order_byte then Some (WithBody (APassed AnOrder))
     else if byte == env_change_byte then Some (WithBody (APassed AnEnvChange))
     else if byte == error_byte then Some (WithBody AnError)

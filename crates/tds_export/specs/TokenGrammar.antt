@@ -5,7 +5,7 @@ use Rattle.tds_values.specs.Numbers.{little}
 use Rattle.tds_columns.specs.Description.{Column, DescriptionPart, BeforeCount, NoDescription, WholeDescription, described_size, described_fault}
 use Rattle.tds_columns.specs.Description.{add_described, span}
 use Rattle.tds_values.specs.declared.charset.Charset.{Charset}
-use Rattle.tds_cells.specs.Rows.{RowPart, WholeRow, row_start, nbc_row_start, row_size, row_fault, row_add, row_so_far}
+use Rattle.tds_cells.specs.Rows.{NbcRow, PlainRow, RowPart, WholeRow, row_start, row_size, row_fault, row_add, row_so_far}
 use Rattle.tds_packet.specs.Elements.{Grammar}
 use Rattle.tds_packet.specs.declared.fault.Fault.{Fault}
 use Rattle.tds_packet.specs.declared.fault.Fault.TheVariants.{MessageEnded, EndWithoutDone, RefusedToken, RowWithoutColumns, BadNotice}
@@ -68,8 +68,8 @@ start_of_row tokens start (Some columns) = with_row tokens (start columns)
 -- the state after the first byte of a token
 abbrev pub after_lead : Charset → List Token → Lead → Part
 after_lead charset tokens AMetadata = record { tokens = tokens; at = Describing BeforeCount }
-after_lead charset tokens ARow = start_of_row tokens (row_start charset) (described_after None tokens)
-after_lead charset tokens AnNbcRow = start_of_row tokens nbc_row_start (described_after None tokens)
+after_lead charset tokens ARow = start_of_row tokens (row_start PlainRow charset) (described_after None tokens)
+after_lead charset tokens AnNbcRow = start_of_row tokens (row_start NbcRow charset) (described_after None tokens)
 after_lead charset tokens (WithBody b) = record { tokens = tokens; at = TokenLength b }
 after_lead charset tokens (WithFields f) = record { tokens = tokens; at = Fields f }
 after_lead charset tokens AReturn = record { tokens = tokens; at = InReturn ReturnOrdinal }

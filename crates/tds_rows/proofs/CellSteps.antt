@@ -139,7 +139,7 @@ counted_taken (N.Err stop) _ _ a b d _ _ _ _ _ _ some good takes at going there 
 
 -- from the shape of a scalar kind on
 pub scalar_start : (charset : N.Charset) (kind : Kind) {o : N.Option ℕ} → N.is_scalar kind ≡ true → fixed_length kind ≡ o
-    → N.cell_start kind (N.shape_of_length o) ≡ N.cell_start kind (N.shape charset kind)
+    → N.cell_start kind (N.option_map_or N.FixedShape o N.CountedShape) ≡ N.cell_start kind (N.shape charset kind)
 scalar_start _ _ scalar is = grind arith
 
 -- ---- a cell that lies whole, and is refused

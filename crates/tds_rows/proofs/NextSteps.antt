@@ -1,7 +1,7 @@
 -- The next cells of a row, those of a run or one, NULL or not, and rows one after another.
 use Rattle.tds_rows.proofs.Words as N
 use Rattle.tds_rows.proofs.Words.{arith, sym, ◌≡◌, ◌+◌, ◌*◌, ℕ, Bool, true, false, List, ◌∷◌, drop, refl, Err, Ok, Option, ◌==◌, Stop, seen, Column, held, Rows}
-use Rattle.tds_rows.proofs.Words.{Cursor, IsInRow, RowPart, marked, ◌∙◌, ◌-◌, ◌^◌, ◌≤◌, ◌<◌, [], ◌++◌, length, ap, before, PayloadView}
+use Rattle.tds_rows.proofs.Words.{Cursor, RowPart, marked, ◌∙◌, ◌-◌, ◌^◌, ◌≤◌, ◌<◌, [], ◌++◌, length, ap, before, PayloadView}
 use Rattle.tds_rows.proofs.Words.{⊤, ◌⊎◌, inl, inr}
 use Rattle.tds_rows.proofs.Words.{Takes}
 use Rattle.tds_rows.proofs.Words.{SinkView, Puts, Charset, Cell, rows, Kind, Knows}
@@ -13,7 +13,7 @@ use Rattle.tds_rows.proofs.RowSteps.{PutsAt, StopsAt, cell_some}
 use Rattle.tds_rows.proofs.Paths.{At, here, Path, RowStops, path_both, path_map, path_none, path_of, over}
 use Rattle.std.proofs.lemmas.Bool.{true≢false}
 use Rattle.tds_cells.proofs.GrammarTexts.{writes_none}
-use Rattle.tds_cells.proofs.RowFormatSteps.{last_one, next_column}
+use Rattle.tds_cells.proofs.RowFormatSteps.{TakesColumn, last_one, next_column}
 use Rattle.tds_cells.proofs.RunSteps.{rows_after, row_among, row_token}
 use Rattle.tds_rows.proofs.RunPuts.{whole_breaks, whole_puts}
 use Rattle.tds_rows.proofs.RunPuts.{run_breaks}
@@ -89,16 +89,17 @@ module _ (charset : Charset) (start : RowPart) (columns : List Column) (nulls : 
   column_nears : (at : ℕ) (q r : At) (bytes text : List ℕ) → N.WritesColumn charset columns nulls at bytes text → Passes q r bytes text → Near at q
       → Near (at + 1) r
   column_nears at q r bytes text w y x =
-      rw (next_column columns at w.next).1.1 (go _ w.writes (rw w.next at x))
+      rw (next_column columns at w.next).1.1 (go _ refl (rw w.next at x))
     where
-      go : (null : Bool) → N.WritesNext charset null w.column.kind at (N.is_last_column w.left) bytes text
+      go : (null : Bool) → nulls at ≡ null
           → NearsCells charset start ((w.column, null) ∷ marked w.left nulls (at + 1)) p q at
           → NearsCells charset start (marked w.left nulls (at + 1)) p r (at + 1)
-      go true v z =
+      go true is z =
+          let v = w.null is in
           let y' = rw (v.0, v.1, ends_marked w.left nulls (at + 1)) at y in
           null_nears (nears_onward y' z) y'.puts
-      go false v z =
-          let put = whole_puts charset _ at _ q r bytes text v (grind arith)
+      go false is z =
+          let put = whole_puts charset _ at _ q r bytes text (w.cell is) (grind arith)
           y.place_is y.puts in
           cell_nears y.between y.few (all_put refl y.delivered z) (rw (ends_marked w.left nulls (at + 1)) at put)
 
@@ -116,14 +117,14 @@ module _ (charset : Charset) (start : RowPart) (columns : List Column) (nulls : 
       → N.WritesColumn charset columns nulls at bytes text
       → Takes q.seen d (bytes ++ rest) 0 → N.IsBetween d → length q.held.waiting < 4096 → q.held.delivered ≤ 2 ^ 64 - 1 → N.WritesPrefix q.held j text stop
       → Near at q → RowStops charset start p.seen d p.place p.held j true stop
-  column_breaks at q d j stop bytes rest text w takes between few delivered breaks x = go _ w.writes (rw w.next at x)
+  column_breaks at q d j stop bytes rest text w takes between few delivered breaks x = go _ refl (rw w.next at x)
     where
-      go : (null : Bool) → N.WritesNext charset null w.column.kind at (N.is_last_column w.left) bytes text
+      go : (null : Bool) → nulls at ≡ null
           → NearsCells charset start ((w.column, null) ∷ marked w.left nulls (at + 1)) p q at → RowStops charset start p.seen d p.place p.held j true stop
-      go true v z = null_breaks rest (rw v.0 at takes) between z (grind arith)
-      go false v z = cell_stops (all_put refl delivered z)
+      go true is z = let v = w.null is in null_breaks rest (rw v.0 at takes) between z (grind arith)
+      go false is z = cell_stops (all_put refl delivered z)
           (rw (ends_marked w.left nulls (at + 1)) at (whole_breaks {a = q.seen} {b = d} {place = q.place} {h = q.held} {j = j} {stop = stop} charset _
-          rest v takes between few delivered breaks refl))
+          rest (w.cell is) takes between few delivered breaks refl))
 
   -- a write of the text of so many columns failed
   marked_breaks : (from n : ℕ) (q : At) (d : PayloadView) (j : SinkView) (stop : Stop) (bytes rest text : List ℕ)
@@ -145,10 +146,15 @@ module _ (charset : Charset) (start : RowPart) (columns : List Column) (nulls : 
 
 -- ---- a reading of rows, from call to call
 
+-- a row is being read
+abbrev pub IsInRow : {R W : Type 0} → Rows R W → Type 0
+IsInRow rows = N.AwaitsRows rows.payload.now rows.sink.now rows.small.now
+
 -- A row is still being read, on the same devices and area, by the same row format, with no more than a cell gathered.
 pub record StaysInRow {R W : Type 0} (old new : Rows R W) : Type 0 where
   pub in_row : IsInRow new
-  pub same : N.IsOnSameRows old new
+  pub same : (new.payload.ghost_name ≡ old.payload.ghost_name) × (new.sink.ghost_name ≡ old.sink.ghost_name)
+      × (new.small.ghost_name ≡ old.small.ghost_name) × (new.row_format ≡ old.row_format)
   pub payload : N.IsOnSame old.payload.now new.payload.now
   pub sink : N.IsOnSameSink old.sink.now new.sink.now
   pub small : N.LeavesSmall old.small.now new.small.now
@@ -171,14 +177,14 @@ stops_on x y = grind arith
 
 -- the row's last cell is the one before no other
 last_is : {row_format : N.RowFormat} {columns : List Column} {at after : Cursor} {kind : Kind} (nulls : ℕ → Bool) → Knows row_format columns
-    → N.TakesColumn row_format columns at after kind
+    → TakesColumn row_format columns at after kind
     → (at.column + 1 == row_format.count) ≡ ends (marked (drop after.column columns) nulls (at.column + 1))
 last_is nulls knows taken = last_one _ _ _ _ _ knows.counted taken.next ∙ ends_marked _ nulls _
 
 -- the next cell was read, or it stopped
 pub cell_read : {R W U : Type 0} {remaining : R → Option (List ℕ)} {contents : W → Option (List ℕ)} {old new : Rows R W} {at after : Cursor}
     {kind : Kind} {result : N.Result U Stop} {columns : List Column} (nulls : ℕ → Bool) → N.CellRead remaining contents at kind old new result
-    → Knows old.row_format.now columns → (taken : N.TakesColumn old.row_format.now columns at after kind)
+    → Knows old.row_format.now columns → (taken : TakesColumn old.row_format.now columns at after kind)
     → N.FieldPut remaining contents (N.cell_start taken.column.kind (N.shape old.row_format.now.charset taken.column.kind)) at.column
     (ends (marked (drop after.column columns) nulls (at.column + 1))) old.payload.now new.payload.now old.sink.now new.sink.now result
 cell_read nulls x knows taken = rw (taken.kind, last_is nulls knows taken) at x.cell
@@ -189,7 +195,8 @@ cell_read nulls x knows taken = rw (taken.kind, last_is nulls knows taken) at x.
 pub record RowsAt (token : N.RowToken) (charset : Charset) (all : List Column) (p q : At) (count : ℕ) (part : RowPart) : Type 0 where
   pub before : List (List Cell)
   pub counted : length before ≡ count
-  pub path : Path (rows token charset all) N.rows_so_far (N.rows_start token charset all) p q (record { before = before; at = part })
+  pub path : Path (rows token charset all) N.rows_so_far (record { before = []; at = N.row_start token charset all }) p q
+      (record { before = before; at = part })
 
 -- nothing is put where the sink stays as it was
 pub none_put : {W : Type 0} (contents : W → Option (List ℕ)) {old new : N.Sink W} → new ≡ old → (held contents old).delivered ≤ 2 ^ 64 - 1
@@ -197,7 +204,7 @@ pub none_put : {W : Type 0} (contents : W → Option (List ℕ)) {old new : N.Si
 none_put _ same d = rw same (N.Puts-none _ d)
 
 module _ {token : N.RowToken} {charset : Charset} {all : List Column} where
-  pub rows_first : {p : At} → p.held.delivered ≤ 2 ^ 64 - 1 → RowsAt token charset all p p 0 (N.token_start token charset all)
+  pub rows_first : {p : At} → p.held.delivered ≤ 2 ^ 64 - 1 → RowsAt token charset all p p 0 (N.row_start token charset all)
   rows_first d = grind (arith, path_none)
 
   module _ {p q : At} {count : ℕ} where
@@ -237,7 +244,7 @@ module _ {token : N.RowToken} {charset : Charset} {all : List Column} where
   -- the token byte of the next row was read
   pub rows_token : {p q r : At} {count : ℕ} → 0 < length all → over (N.ReadsRows token charset all count) p q
       → Takes q.seen r.seen (N.token_byte token ∷ []) 1 → Puts q.held r.held [] → r.place ≡ q.place + 1
-      → RowsAt token charset all p r count (N.token_start token charset all)
+      → RowsAt token charset all p r count (N.row_start token charset all)
   rows_token some x takes puts place_is = record {
     before = x.earlier ++ x.last ∷ [];
     counted = omega (arith, N.length-append x.earlier (x.last ∷ []));
@@ -255,7 +262,7 @@ rows_further {charset = charset} {all = all} {earlier = earlier} x y = record {
   path = path_both x.path (rw N.append-nil at (path_map (λ a m. rows_after charset all x.before) y));
 }
 
-module _ {charset : Charset} {all : List Column} {p q : At} {count : ℕ} (x : RowsAt N.PlainRow charset all p q count (N.row_start charset all)) where
+module _ {charset : Charset} {all : List Column} {p q : At} {count : ℕ} (x : RowsAt N.PlainRow charset all p q count (N.row_start N.PlainRow charset all)) where
   rows_more : {n : ℕ} {r : At} → over (N.ReadsRows N.PlainRow charset all n) q r → over (N.ReadsRows N.PlainRow charset all (count + n)) p r
   rows_more {n = n} y =
       let z = rows_whole (rows_further x (path_of y.streams y.place_is)) in
@@ -304,7 +311,7 @@ module _ {charset : Charset} {all : List Column} {p q : At} {column count : ℕ}
 abbrev standing : N.Nulls → Charset → List Column → At → At → ℕ → ℕ → Type 0
 standing N.Unmarked charset columns p q column count = Rowing charset columns (coming (drop column columns) column) p q column count
 standing (N.Marked bitmap) charset columns p q column count = (count ≡ 0)
-    × NearsCells charset (N.nbc_row_start columns) (marked (drop column columns) (N.bit bitmap.now) column) p q column
+    × NearsCells charset (N.Bitmap columns) (marked (drop column columns) (N.bit bitmap.now) column) p q column
 
 -- the token of the rows with such bits
 abbrev pub token_of : N.Nulls → N.RowToken
@@ -329,7 +336,7 @@ pub record NextPut {R W : Type 0} (remaining : R → Option (List ℕ)) (content
     (at after : Cursor) (result : N.Result ⊤ Stop) : Type 0 where
   pub kind : Kind
   pub takes : (columns : List Column) → Knows old.row_format.now columns → N.IsCursor old.row_format.now columns at
-      → N.TakesColumn old.row_format.now columns at after kind
+      → TakesColumn old.row_format.now columns at after kind
   pub read : N.NextRead remaining contents at kind (N.nulls_of nulls at.column) old new result
 
 abbrev pub SomeHere : {R W : Type 0} → (R → Option (List ℕ)) → (W → Option (List ℕ)) → N.RowToken → List Column → Rows R W → Rows R W → N.Result ℕ Stop
@@ -337,11 +344,11 @@ abbrev pub SomeHere : {R W : Type 0} → (R → Option (List ℕ)) → (W → Op
 SomeHere remaining contents token columns old new result = N.SomeRead remaining contents token old.row_format.now.charset columns old.payload.now
     new.payload.now old.sink.now new.sink.now result
 
-passes_on : {R W : Type 0} (remaining : R → Option (List ℕ)) (contents : W → Option (List ℕ)) {old new : Rows R W} {bytes text : List ℕ} → IsInRow old
+passes_on : {R W : Type 0} (remaining : R → Option (List ℕ)) (contents : W → Option (List ℕ)) (old new : Rows R W) {bytes text : List ℕ} → IsInRow old
     → IsInRow new → Takes (seen remaining old.payload.now) (seen remaining new.payload.now) bytes 0
     → Puts (held contents old.sink.now) (held contents new.sink.now) text → new.payload.now.place ≡ old.payload.now.place + length bytes
     → Passes (here remaining contents old) (here remaining contents new) bytes text
-passes_on remaining contents {new = new} before after takes puts place_is = record {
+passes_on remaining contents _ new before after takes puts place_is = record {
   takes = takes;
   between = N.between_of remaining new.payload.now after.payload.going;
   puts = puts;
@@ -352,7 +359,7 @@ passes_on remaining contents {new = new} before after takes puts place_is = reco
 
 module _ {R W : Type 0} (remaining : R → Option (List ℕ)) (contents : W → Option (List ℕ)) (old new : Rows R W) {columns : List Column} (nulls : ℕ
     → Bool) {at after : Cursor} {kind : Kind} (knows : Knows old.row_format.now columns) (ahead : N.IsCursor old.row_format.now columns at)
-    (taken : N.TakesColumn old.row_format.now columns at after kind) where
+    (taken : TakesColumn old.row_format.now columns at after kind) where
   abbrev left : List (Column × Bool)
   left = marked (drop after.column columns) nulls (at.column + 1)
 
@@ -363,20 +370,20 @@ module _ {R W : Type 0} (remaining : R → Option (List ℕ)) (contents : W → 
       let some = cell_some {p = here remaining contents old} {q = here remaining contents new} _ _ (cell_read nulls x knows taken) in
       omega (arith, some)
 
-  module _ (p : At) (in_row : IsInRow old) (near : NearsCells old.row_format.now.charset (N.nbc_row_start columns)
+  module _ (p : At) (in_row : IsInRow old) (near : NearsCells old.row_format.now.charset (N.Bitmap columns)
       (marked (drop at.column columns) nulls at.column) p (here remaining contents old) at.column) where
     left_here : (null : Bool) → nulls at.column ≡ null
-        → NearsCells old.row_format.now.charset (N.nbc_row_start columns) ((taken.column, null) ∷ left) p (here remaining contents old) at.column
+        → NearsCells old.row_format.now.charset (N.Bitmap columns) ((taken.column, null) ∷ left) p (here remaining contents old) at.column
     left_here _ is = grind arith
 
     next_nears : {u : ⊤} (null : Bool) → nulls at.column ≡ null → N.LeavesRows old new (Ok u) → N.NextRead remaining contents at kind null old new (Ok u)
-        → NearsCells old.row_format.now.charset (N.nbc_row_start columns) left p (here remaining contents new) (at.column + 1)
+        → NearsCells old.row_format.now.charset (N.Bitmap columns) left p (here remaining contents new) (at.column + 1)
     next_nears true is leaves y = rw y.0 (null_nears (left_here true is) (rw (last_is nulls knows taken) at y.1.gives))
     next_nears false is leaves y = cell_nears (N.between_of remaining new.payload.now leaves.payload.going) (omega arith)
         (all_put refl in_row.sink.ready.2 (left_here false is)) (cell_read nulls y knows taken)
 
     next_stops : {stop : Stop} (null : Bool) → nulls at.column ≡ null → N.NextRead {U = ⊤} remaining contents at kind null old new (Err stop)
-        → RowStops old.row_format.now.charset (N.nbc_row_start columns) p.seen (seen remaining new.payload.now) p.place p.held (held contents new.sink.now)
+        → RowStops old.row_format.now.charset (N.Bitmap columns) p.seen (seen remaining new.payload.now) p.place p.held (held contents new.sink.now)
         new.sink.now.failed stop
     next_stops true is y = rw (y.0, y.1.failed) (null_breaks [] (N.Takes-none _ 0)
         (grind arith) (left_here _ is) (rw (last_is nulls knows taken) at (y.1.gives in_row.sink.writing)))
@@ -419,7 +426,7 @@ module _ {R W : Type 0} {remaining : R → Option (List ℕ)} {contents : W → 
           let runs = put.wrote.1 _ y.0 y.1 in
           let near = marked_nears _ _ columns (N.bit bitmap.now) _ from.column runs.count (here remaining contents old) (here remaining contents new)
           _ _ runs.writes
-          (passes_on remaining contents x.kept.in_row (stays_after x.kept.in_row run.leaves).in_row put.takes put.puts put.place_is) y.2.1 in
+          (passes_on remaining contents old new x.kept.in_row (stays_after x.kept.in_row run.leaves).in_row put.takes put.puts put.place_is) y.2.1 in
           rw (← x.kept.same.3) (runs.ahead, (omega (arith, y.2.0, put.wrote.0), rw runs.further near));
     }
 
@@ -546,7 +553,7 @@ module _ {charset : Charset} {columns : List Column} {p q : At} where
   -- its bitmap and its cells were handed out, and their text was put
   pub whole_row : (bitmap cells text : List ℕ) → 0 < length columns → length bitmap ≡ N.bitmap_length (length columns)
       → Passes p q (bitmap ++ cells) text → length p.held.waiting < 4096 → q.held.delivered ≤ 2 ^ 64 - 1
-      → N.WritesMarked charset columns (N.bit bitmap) 0 (length columns) cells text → over (N.ReadsRow charset (N.nbc_row_start columns)) p q
+      → N.WritesMarked charset columns (N.bit bitmap) 0 (length columns) cells text → over (N.ReadsRow charset (N.Bitmap columns)) p q
   whole_row bitmap cells text some whole passes few delivered writes =
       let t = passes_apart p q bitmap cells [] text passes in
       let begun = bitmap_nears columns bitmap some whole (grind arith) t.1.between few passes.delivered t.1.place_is in
@@ -560,8 +567,8 @@ takes_one _ _ _ x = grind arith
 module _ {charset : Charset} {columns : List Column} where
   -- so many of them, each before the token byte of the next, were handed out with it, and their lines were put
   rows_marked : (n : ℕ) {o : At} {count : ℕ} (p q : At) (bytes text : List ℕ) → 0 < length columns → length p.held.waiting < 4096
-      → N.WritesNbcRows charset columns n bytes text → Passes p q bytes text → RowsAt N.NbcRow charset columns o p count (N.nbc_row_start columns)
-      → RowsAt N.NbcRow charset columns o q (count + n) (N.nbc_row_start columns)
+      → N.WritesNbcRows charset columns n bytes text → Passes p q bytes text → RowsAt N.NbcRow charset columns o p count (N.Bitmap columns)
+      → RowsAt N.NbcRow charset columns o q (count + n) (N.Bitmap columns)
   rows_marked N.zero {count = count} p q _ _ _ _ w y x = rw (N.add-zero count) (rows_stay x (rw (w.0, w.1) at y))
   rows_marked (N.suc n) {count = count} p q _ _ some few (front, row, before, line, joined, text_is, earlier, last) y x =
       let token = N.token_byte N.NbcRow ∷ [] in
@@ -576,7 +583,7 @@ module _ {charset : Charset} {columns : List Column} where
   -- and so was one more, which no other follows
   rows_whole_last : (n : ℕ) {o : At} {count : ℕ} (p q : At) (bytes text : List ℕ) → 0 < length columns → length p.held.waiting < 4096
       → q.held.delivered ≤ 2 ^ 64 - 1
-      → N.WritesWholeRows charset columns n N.true bytes text → Passes p q bytes text → RowsAt N.NbcRow charset columns o p count (N.nbc_row_start columns)
+      → N.WritesWholeRows charset columns n N.true bytes text → Passes p q bytes text → RowsAt N.NbcRow charset columns o p count (N.Bitmap columns)
       → over (N.ReadsRows N.NbcRow charset columns (count + n + 1)) o q
   rows_whole_last n p q _ _ some few delivered (front, row, earlier_text, line, joined, text_is, earlier, last) y x =
       let t = passes_apart p q front row earlier_text line (rw (joined, text_is) at y) in
@@ -596,7 +603,7 @@ pub record RowsCome {R W : Type 0} (remaining : R → Option (List ℕ)) (conten
   pub kept : StaysInRow first rows
   pub reads : (columns : List Column) → Knows first.row_format.now columns
       → RowsAt token first.row_format.now.charset columns (here remaining contents first) (here remaining contents rows) count
-      (N.token_start token first.row_format.now.charset columns)
+      (N.row_start token first.row_format.now.charset columns)
 
 module _ {R W : Type 0} {remaining : R → Option (List ℕ)} {contents : W → Option (List ℕ)} where
   pub come_first : {token : N.RowToken} {first : Rows R W} → IsInRow first → RowsCome remaining contents token first first 0
@@ -613,7 +620,7 @@ module _ {R W : Type 0} {remaining : R → Option (List ℕ)} {contents : W → 
       reads = λ columns knows.
           let y = taken columns (rw (← x.kept.same.3) at knows) in
           let w = rw ((none refl).0, more) at y.wrote in
-          let passes = passes_on remaining contents x.kept.in_row stays.in_row y.takes y.puts y.place_is in
+          let passes = passes_on remaining contents old new x.kept.in_row stays.in_row y.takes y.puts y.place_is in
           rw ((none refl).0, N.add-zero count) (rows_stay (x.reads columns knows) (rw (w.0, w.1) at passes));
     }
     come_taken N.NbcRow _ x more = let stays = stays_after x.kept.in_row leaves in record {
@@ -623,7 +630,7 @@ module _ {R W : Type 0} {remaining : R → Option (List ℕ)} {contents : W → 
           let y = taken columns known in
           let sink = x.kept.in_row.sink in
           rows_marked n _ _ _ _ (omega (arith, known.counted, some)) (sink.ready.1 sink.writing) (rw (x.kept.same.3, more) at y.wrote)
-          (passes_on remaining contents x.kept.in_row stays.in_row y.takes y.puts y.place_is) (x.reads columns knows);
+          (passes_on remaining contents old new x.kept.in_row stays.in_row y.takes y.puts y.place_is) (x.reads columns knows);
     }
 
     -- and the last, which no other follows
@@ -637,7 +644,7 @@ module _ {R W : Type 0} {remaining : R → Option (List ℕ)} {contents : W → 
         let y = taken _ known in
         let sink = x.kept.in_row.sink in
         rows_whole_last n _ _ _ _ (omega (arith, known.counted, some)) (sink.ready.1 sink.writing) stays.in_row.sink.ready.2
-        (rw (x.kept.same.3, end) at y.wrote) (passes_on remaining contents x.kept.in_row stays.in_row y.takes y.puts y.place_is) (x.reads _ knows)
+        (rw (x.kept.same.3, end) at y.wrote) (passes_on remaining contents old new x.kept.in_row stays.in_row y.takes y.puts y.place_is) (x.reads _ knows)
 
   module _ {first old new : Rows R W} {count : ℕ} where
     -- a row more was read, or several
@@ -653,7 +660,9 @@ module _ {R W : Type 0} {remaining : R → Option (List ℕ)} {contents : W → 
     -- and the token byte of the next
     pub come_next : {V : Type 0} {v : V} {after : Rows R W} {n : ℕ} (token : N.RowToken) → RowsCome remaining contents token first old count
         → 0 < old.row_format.now.count → N.LeavesRows old new (Ok n) → SomeFrom remaining contents token old new (Ok n)
-        → N.LeavesRows new after (Ok v) → after.sink.now ≡ new.sink.now → N.TokenTaken remaining token new.payload.now after.payload.now true
+        → N.LeavesRows new after (Ok v) → after.sink.now ≡ new.sink.now
+        → Takes (seen remaining new.payload.now) (seen remaining after.payload.now) (N.token_byte token ∷ []) 1
+        × (after.payload.now.place ≡ new.payload.now.place + 1)
         → RowsCome remaining contents token first after (count + n)
     come_next token x some leaves read stays sink taken =
         let kept = stays_on x.kept (stays_after x.kept.in_row leaves) in

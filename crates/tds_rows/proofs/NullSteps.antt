@@ -107,7 +107,7 @@ all_ahead _ (c ∷ cs) _ _ = grind (arith, nulls_text)
 pub bitmap_nears : {charset : Charset} {p : At} {b : PayloadView} {place' : ℕ} (columns : List Column) (bitmap : List ℕ) → 0 < length columns
     → length bitmap ≡ N.bitmap_length (length columns) → N.Takes p.seen b bitmap (length bitmap) → N.IsBetween b → length p.held.waiting < 4096
     → p.held.delivered ≤ 2 ^ 64 - 1
-    → place' ≡ p.place + length bitmap → NearsCells charset (N.nbc_row_start columns) (N.marked columns (N.bit bitmap) 0) p
+    → place' ≡ p.place + length bitmap → NearsCells charset (N.Bitmap columns) (N.marked columns (N.bit bitmap) 0) p
     (record { seen = b; place = place'; held = p.held }) 0
 bitmap_nears {p = p} _ bitmap some whole takes between few d at =
     let next : N.IsNext _ _ bitmap = grind arith in
@@ -121,7 +121,7 @@ bitmap_nears {p = p} _ bitmap some whole takes between few d at =
 -- the payload stopped in the bitmap
 pub bitmap_cut : {columns : List Column} {a b : PayloadView} {place : ℕ} {h : SinkView} {stop : Stop} (charset : Charset) (part : List ℕ) (own : Stop)
     → length part < N.bitmap_length (length columns) → N.Ends a b part own → stop ≡ N.began_at place own → h.delivered ≤ 2 ^ 64 - 1
-    → RowStops charset (N.nbc_row_start columns) a b place h h false stop
+    → RowStops charset (N.Bitmap columns) a b place h h false stop
 bitmap_cut _ _ _ fewer ended is d =
     record { at = N.Bitmap _; cause = inl (N.cut_at_once _ _ _ _ _ _ _ _ fewer ended (N.began_is_cut _ _ _ _ refl is), ([], refl, N.Puts-none _ d), refl) }
 
@@ -226,7 +226,7 @@ module _ {charset : Charset} {start : RowPart} {ks : List (Column × Bool)} {p q
 
 -- before the first column of a ROW, and after the last one of a row
 pub row_begins : {charset : Charset} {p : At} (columns : List Column) → p.held.delivered ≤ 2 ^ 64 - 1
-    → Reads charset (N.row_start charset columns) (coming columns 0) p p 0
+    → Reads charset (N.row_start N.PlainRow charset columns) (coming columns 0) p p 0
 row_begins _ d = grind (arith, path_none)
 
 pub row_ends : {charset : Charset} {start : RowPart} {p q : At} {column : ℕ} → Reads charset start [] p q column

@@ -1,7 +1,7 @@
 -- The numbers of a long value, its length or total and those of its chunks, as elements of its cell: how each is judged, and where it leads.
 use Rattle.tds_rows.proofs.Words as N
 use Rattle.tds_rows.proofs.Words.{◌-◌, ◌%◌, ◌||◌, if◌then◌else◌, ◌≡◌, ◌≢◌, ◌∙◌, ◌⊎◌, ℕ, ◌+◌, ◌<◌, List, [], refl, ap, arith, Option, Some, None, ◌==◌, Fault}
-use Rattle.tds_rows.proofs.Words.{PayloadView, Stop}
+use Rattle.tds_rows.proofs.Words.{PayloadView, Stop, ◌^◌}
 use Rattle.tds_rows.proofs.Words.{unit, CellPart, ChunkLength, Total, cell}
 use Rattle.tds_packet.specs.declared.payload.Payload.{Payload as Input}
 
@@ -23,11 +23,11 @@ short_length n = if n == 0xFFFF then None else Some n
 
 -- the fault of a total
 abbrev pub total_fault : ℕ → ℕ → ℕ → Option Fault
-total_fault column size n = N.unless (N.nat_le N.unknown_total n || (n % size == 0)) (N.OddText column)
+total_fault column size n = N.unless (N.nat_le (2 ^ 64 - 2) n || (n % size == 0)) (N.OddText column)
 
 -- and what it says: nothing of NULL, else how many bytes there are, if that is known
 abbrev pub total_of : ℕ → Option (Option ℕ)
-total_of n = if n == N.null_total then None else Some (N.known_total n)
+total_of n = if n == (2 ^ 64 - 1) then None else Some (N.known_total n)
 
 -- An element of a cell was read, which leads from one state to another.
 pub record Next (column : ℕ) (s : CellPart) (a b : PayloadView) (place place' : ℕ) (t : CellPart) : Type 0 where

@@ -78,7 +78,7 @@ run_put {to = to} {bytes = bytes} {text = text} {r = N.Err stop} _ _ _ _ wrote t
 
 -- a write of their text failed, in the row that the run began in
 pub run_breaks : {row_format : RowFormat} {columns : List Column} {from : Cursor} {a b : N.PayloadView} {h j : N.SinkView} {place : ℕ} {failed : Bool}
-    {stop : N.Stop} (cells : List Cell) → N.WritesPrefixOfRun row_format N.none_null from a b h j failed stop → N.Knows row_format columns
+    {stop : N.Stop} (cells : List Cell) → N.WritesPrefixOfRun row_format (λ k. false) from a b h j failed stop → N.Knows row_format columns
     → IsCursor row_format columns from → length cells ≡ from.column
     → length h.waiting < 4096 → h.delivered ≤ 2 ^ 64 - 1
     → RowStops row_format.charset (N.after_cells row_format.charset cells (drop from.column columns)) a b place h j failed stop

@@ -4,7 +4,7 @@ use Rattle.tds_packet.specs.declared.payload.Payload.{Payload}
 use Rattle.tds_rows.proofs.Words.{◌≡◌, ◌∙◌, inl, inr, ℕ, ◌+◌, ◌<◌, List, [], ◌∷◌, ◌++◌, length, ap, arith, Ok, Err, Option, Some, if◌then◌else◌, Rose, Fault}
 use Rattle.tds_rows.proofs.Words.{Stop, before, Grammar, Spelt, PayloadView, Cell, Brings}
 use Rattle.tds_cells.proofs.CellLaws.{cell_is_read}
-use Rattle.tds_cells.proofs.RowLaws.{nbc_row_is_read, row_is_read}
+use Rattle.tds_cells.proofs.RowLaws.{nbc_row_is_read, row_is_read, some_bitmap}
 use Rattle.tds_cells.proofs.RunSteps.{row_token, row_among_rows}
 
 -- a call that fails raises the count
@@ -99,6 +99,12 @@ long_is_read column kind c N.Chunked value bytes h = cell_is_read column kind (N
 
 -- ---- rows, one after another
 
+-- what spells a row is read as it
+token_row_is_read : (token : N.RowToken) (charset : N.Charset) (columns : List N.Column) (cells : List Cell) (bytes : List ℕ) → 0 < length columns
+    → N.SpellsRow token charset columns cells bytes → Spelt (N.row charset) (N.row_start token charset columns) bytes (N.WholeRow cells)
+token_row_is_read N.PlainRow _ _ _ _ some h = row_is_read _ _ _ _ h
+token_row_is_read N.NbcRow charset columns cells bytes some h = nbc_row_is_read charset columns cells bytes (some_bitmap columns some) h
+
 module _ (token : N.RowToken) (charset : N.Charset) (columns : List N.Column) (some_columns : 0 < length columns) where
   abbrev all_rows : Grammar N.RowsPart Fault
   all_rows = N.rows token charset columns
@@ -107,12 +113,12 @@ module _ (token : N.RowToken) (charset : N.Charset) (columns : List N.Column) (s
   among before part = record { before = before; at = part }
 
   abbrev begun_after : List (List Cell) → N.RowsPart
-  begun_after before = among before (N.token_start token charset columns)
+  begun_after before = among before (N.row_start token charset columns)
 
-  row_of_rows : (before : List (List Cell)) (cells : List Cell) (bytes : List ℕ) → N.SpellsRowAs token charset columns cells bytes
+  row_of_rows : (before : List (List Cell)) (cells : List Cell) (bytes : List ℕ) → N.SpellsRow token charset columns cells bytes
       → Spelt all_rows (begun_after before) bytes (among before (N.WholeRow cells))
-  row_of_rows before _ bytes h = N.Inside-Spelt _ all_rows _ (row_among_rows token charset columns before) _ bytes _
-      (grind (arith, nbc_row_is_read, row_is_read))
+  row_of_rows before cells bytes h = N.Inside-Spelt _ all_rows _ (row_among_rows token charset columns before) _ bytes _
+      (token_row_is_read token charset columns cells bytes some_columns h)
 
   -- rows that are spelt are read as rows
   rows_are_read : (before : List (List Cell)) (first : List Cell) (later : List (List Cell)) (bytes : List ℕ)

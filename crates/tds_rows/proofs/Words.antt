@@ -68,8 +68,9 @@ pub use Rattle.tds_rows.specs.CellSteps.{FieldPut, PutsField, GathersCell}
 pub use Rattle.tds_cells.specs.Cells.{ShortData, ScalarLength, WholeCell, cell, ChunkLength}
 pub use Rattle.tds_cells.specs.Cells.{ShortLength, cell_start, cell_add, Null, cell_size, unless, shape}
 pub use Rattle.tds_cells.specs.Cells.{ScalarBytes, Total, field, Shape, cell_end, field_so_far, ChunkData, CellPart}
-pub use Rattle.tds_cells.specs.Cells.{known_total, null_total, unknown_total}
-pub use Rattle.tds_cells.specs.Cells.{return_charset, LongShape, shape_of_length, cell_fault, Cell, SpellsCell, long_start}
+pub use Rattle.tds_cells.specs.Cells.{CountedShape, FixedShape, known_total}
+pub use Rattle.std.specs.Option.{option_map_or}
+pub use Rattle.tds_cells.specs.Cells.{return_charset, LongShape, cell_fault, Cell, SpellsCell, long_start}
 pub use Rattle.tds_cells.specs.Cells.{DataCell}
 pub use Rattle.tds_cells.specs.Layouts.{IsLaidOut}
 pub use Rattle.tds_rows.specs.LongReading.{IsOnSameValue}
@@ -83,24 +84,23 @@ pub use Rattle.std.proofs.lemmas.List.{take-append-le}
 pub use Rattle.std.proofs.Common.{length-drop}
 pub use Rattle.tds_rows.specs.LongCells.{FillsData, TakesData}
 pub use Rattle.tds_cells.specs.MarkedRuns.{WritesColumn, WritesMarked}
-pub use Rattle.tds_cells.specs.MarkedRuns.{WritesNext}
 pub use Rattle.tds_rows.specs.PassedCells.{CellPassed, StepsOver, StopsPassing, CutsPassing, PassesData, PassesCell, AnyData}
 pub use Rattle.tds_rows.specs.RowRuns.{RunRead}
 pub use Rattle.tds_cells.specs.MarkedRows.{WritesNbcRows, WritesWholeRows}
-pub use Rattle.tds_rows.specs.RowReading.{BitmapRead, CellRead, IsOnSameRows, LeavesRows, IsInRow, MarkedBy, NextRead, TokenTaken}
+pub use Rattle.tds_rows.specs.RowReading.{AwaitsRows, BitmapRead, CellRead, LeavesRows, MarkedBy, NextRead}
 pub use Rattle.tds_rows.specs.RowSteps.{ReadsRow, ReadsRows, RowsRead, RowsStop, SomeRead}
 pub use Rattle.tds_cells.specs.Rows.{marked, WholeRow, bitmap_length, bit, RowToken, Bitmap, PlainRow, with_cell, RowPart}
-pub use Rattle.tds_cells.specs.Rows.{row, SpellsRowAs, NbcRow, row_so_far, InCell, token_byte, row_start, token_start}
-pub use Rattle.tds_cells.specs.Rows.{next_cell, nbc_row_start}
-pub use Rattle.tds_cells.specs.Runs.{rows_so_far, rows, Writes, rows_start, after_cells, RowsPart}
+pub use Rattle.tds_cells.specs.Rows.{row, SpellsRow, NbcRow, row_so_far, InCell, token_byte, row_start}
+pub use Rattle.tds_cells.specs.Rows.{next_cell}
+pub use Rattle.tds_cells.specs.Runs.{rows_so_far, rows, Writes, after_cells, RowsPart}
 pub use Rattle.tds_rows.specs.RunPuts.{PutsRun, WritesPrefixOfRun}
 pub use Rattle.tds_cells.specs.Runs.{WritesRows}
 pub use Rattle.tds_rows.specs.Successes.{SpellsRows, SucceedsOn, Brings}
 pub use Rattle.tds_cells.specs.Rows.{BeginNoRow}
-pub use Rattle.tds_cells.specs.RowFormats.{TakesColumn, IsCursor, KnowsSome, Knows}
+pub use Rattle.tds_cells.specs.RowFormats.{IsCursor, KnowsSome, Knows}
 pub use Rattle.tds_cells.specs.WholeCells.{WritesCell, WritesWhole}
 pub use Rattle.tds_rows.specs.declared.rows.Rows.{Rows}
-pub use Rattle.tds_cells.specs.MarkedRuns.{CellsWritten, Covers, RunsMarked, none_null, nulls_of}
+pub use Rattle.tds_cells.specs.MarkedRuns.{CellsWritten, Covers, RunsMarked, nulls_of}
 pub use Rattle.tds_cells.specs.Runs.{Ran, RunWritten}
 pub use Rattle.tds_cells.specs.declared.nulls.Nulls.{Nulls}
 pub use Rattle.tds_cells.specs.declared.nulls.Nulls.TheVariants.{Unmarked, Marked}

@@ -1,5 +1,5 @@
 -- What reading a cell and putting it into its line does.
-use Rattle.std.specs.Prelude.{◌≡◌, ◌+◌, ◌<◌, ◌≤◌, ℕ, Bool, List, [], length, max, Option}
+use Rattle.std.specs.Prelude.{◌≡◌, ◌+◌, ◌<◌, ◌≤◌, ℕ, Bool, List, length, max, Option}
 use Rattle.std.specs.Prelude.{None, Result, Err, MatchResult}
 use Rattle.tds_meter.specs.Space.{Space}
 use Rattle.tds_values.specs.declared.kind.Kind.{Kind}
@@ -11,7 +11,7 @@ use Rattle.tds_packet.specs.declared.fault.Fault.TheVariants.{BadValue, BadValue
 use Rattle.tds_packet.specs.declared.fault.Place.TheVariants.{Payload}
 use Rattle.tds_packet.specs.declared.fault.Stop.{Stop}
 use Rattle.tds_packet.specs.declared.payload.Payload as payloads
-use Rattle.tds_packet.specs.Payloads.{IsGoing, LeavesPayload, seen}
+use Rattle.tds_packet.specs.Payloads.{LeavesPayload, seen}
 use Rattle.tds_packet.specs.Reading.{StopsReading}
 use Rattle.tds_packet.specs.PayloadView.{PayloadView, Takes, IsBetween}
 use Rattle.tds_csv.specs.declared.sink.Sink.{Sink}
@@ -46,20 +46,10 @@ pub record GathersCell (kind : Kind) (from : CellPart) (column : ℕ) (old new :
   pub refused : (fault : ValueFault) → 0 < value_length kind bytes → read_of kind (value_bytes kind bytes) ≡ Err fault
       → StallsCell from column old new place (refusal kind column place fault)
 
--- the most bytes that a cell of a scalar kind has: a length and a decimal
-abbrev pub longest_cell : ℕ
-longest_cell = 18
-
--- A cell is to be gathered: the payload hands out bytes, and this area is empty and has room for the longest.
-pub record IsGathering {R : Type 0} (p : payloads.Payload R) (small : Space) : Type 0 where
-  pub payload : IsGoing p
-  pub empty : small.bytes ≡ []
-  pub room : longest_cell ≤ small.room
-
--- The area in which cells are gathered has the room that it had, and held no more than before or than a cell.
+-- The area in which cells are gathered has the room that it had, and held no more than before or than the longest scalar cell: a length and a decimal.
 pub record LeavesSmall (before after : Space) : Type 0 where
   pub room : after.room ≡ before.room
-  pub bound : after.peak ≤ max before.peak longest_cell
+  pub bound : after.peak ≤ max before.peak 18
 
 -- A call left the payload sound, on the same reader and area, and going if it returned no error, with no more than a cell gathered in this area.
 pub record LeavesGathering {R U : Type 0} (old new : payloads.Payload R) (before after : Space) (result : Result U Stop) : Type 0 where

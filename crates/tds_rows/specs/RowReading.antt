@@ -1,5 +1,5 @@
 -- The reading of rows as the contracts of its steps see it.
-use Rattle.std.specs.Prelude.{⊤, ◌≡◌, ◌==◌, ◌+◌, ◌<◌, ◌≤◌, ℕ, Bool, true, false, List, [], ◌∷◌, length, Option, Result, MatchResult, is_ok}
+use Rattle.std.specs.Prelude.{⊤, ◌≡◌, ◌==◌, ◌+◌, ◌<◌, ◌≤◌, ℕ, Bool, true, false, List, [], length, Option, Result, MatchResult, is_ok}
 use Rattle.tds_values.specs.declared.kind.Kind.{Kind}
 use Rattle.tds_packet.specs.declared.fault.Stop.{Stop}
 use Rattle.tds_packet.specs.declared.payload.Payload.{Payload}
@@ -14,30 +14,24 @@ use Rattle.tds_cells.specs.declared.layout.CellFormat.{CellFormat}
 use Rattle.tds_cells.specs.Layouts.{IsLaidOut}
 use Rattle.tds_cells.specs.Cells.{cell_start, shape}
 use Rattle.tds_meter.specs.Space.{Space}
-use Rattle.tds_rows.specs.CellSteps.{FieldPut, LeavesSmall, longest_cell}
-use Rattle.tds_cells.specs.Rows.{NbcRow, PlainRow, RowToken, bitmap_length, longest_bitmap, token_byte}
+use Rattle.tds_rows.specs.CellSteps.{FieldPut, LeavesSmall}
+use Rattle.tds_cells.specs.Rows.{NbcRow, PlainRow, RowToken, bitmap_length}
 use Rattle.tds_cells.specs.declared.nulls.Nulls.{Nulls}
 use Rattle.tds_cells.specs.declared.nulls.Nulls.TheVariants.{Marked, Unmarked}
 use Rattle.tds_rows.specs.LongCells.{CutsBytes}
 use Rattle.tds_cells.specs.Rows.{BeginNoRow}
-use Rattle.tds_cells.specs.RowFormats.{KnowsSome}
 
--- A call may be made that reads a row: payload and sink go on or give their stop again, and the small area has room for a cell.
+-- A call may be made that reads a row: payload and sink go on or give their stop again, and the small area has room for a scalar cell, of 18 bytes at most.
 pub record IsReadyForRow {R W : Type 0} (payload : Payload R) (sink : Sink W) (small : Space) : Type 0 where
   pub sound : IsSound payload
   pub ready : IsReady sink
-  pub room : longest_cell ≤ small.room
+  pub room : 18 ≤ small.room
 
--- Rows can be read: payload and sink go on, and the small area has room for a cell.
-pub record AwaitsRows {R W : Type 0} (payload : Payload R) (sink : Sink W) (small : Space) : Type 0 where
-  pub going : IsGoing payload
-  pub writing : IsWriting sink
-  pub room : longest_cell ≤ small.room
-
--- NBCROWs can be read: the bitmap's area has room for the longest, too.
-pub record AwaitsNbcRows {R W : Type 0} (payload : Payload R) (sink : Sink W) (small bitmap : Space) : Type 0 where
-  pub rows : AwaitsRows payload sink small
-  pub fits : longest_bitmap ≤ bitmap.room
+-- Rows can be read, or a row is being read: payload and sink go on, and the small area has room for a scalar cell.
+pub record AwaitsRows {R W : Type 0} (p : Payload R) (s : Sink W) (small : Space) : Type 0 where
+  pub payload : IsGoing p
+  pub sink : IsWriting s
+  pub room : 18 ≤ small.room
 
 -- A call left payload and sink in order and, if it returned no error, going on, and no more than a cell in the small area.
 pub record LeavesLent {R W U : Type 0} (old new : Payload R) (before after : Sink W) (room left : Space) (result : Result U Stop) : Type 0 where
@@ -45,31 +39,16 @@ pub record LeavesLent {R W U : Type 0} (old new : Payload R) (before after : Sin
   pub sink : LeavesSink before after result
   pub small : LeavesSmall room left
 
--- A row is being read: payload and sink go on, and the small area has room for a cell.
-pub record IsInRow {R W : Type 0} (rows : Rows R W) : Type 0 where
-  pub payload : IsGoing rows.payload.now
-  pub sink : IsWriting rows.sink.now
-  pub room : longest_cell ≤ rows.small.now.room
-
--- A row of some columns is being read.
-pub record IsInSomeRow {R W : Type 0} (rows : Rows R W) : Type 0 where
-  pub in_row : IsInRow rows
-  pub knows : KnowsSome rows.row_format.now
-
 -- A row is being read, and its next cell is of this format.
 pub record IsAtCell {R W : Type 0} (rows : Rows R W) (at : Cursor) (format : CellFormat) : Type 0 where
-  pub in_row : IsInRow rows
+  pub in_row : AwaitsRows rows.payload.now rows.sink.now rows.small.now
   pub within : at.column < rows.row_format.now.count
   pub laid : IsLaidOut rows.row_format.now.charset format.kind format.layout
 
--- Two readings are on the same payload, sink and area, by the same row format.
-abbrev pub IsOnSameRows : {R W : Type 0} → Rows R W → Rows R W → Type 0
-IsOnSameRows old new = (new.payload.ghost_name ≡ old.payload.ghost_name) × (new.sink.ghost_name ≡ old.sink.ghost_name)
-    × (new.small.ghost_name ≡ old.small.ghost_name) × (new.row_format ≡ old.row_format)
-
 -- A call left the reading on the same devices and area, by the same row format, with no more than a cell gathered, and, if it returned no error, going on.
 pub record LeavesRows {R W U : Type 0} (old new : Rows R W) (result : Result U Stop) : Type 0 where
-  pub same : IsOnSameRows old new
+  pub same : (new.payload.ghost_name ≡ old.payload.ghost_name) × (new.sink.ghost_name ≡ old.sink.ghost_name)
+      × (new.small.ghost_name ≡ old.small.ghost_name) × (new.row_format ≡ old.row_format)
   pub payload : LeavesPayload old.payload.now new.payload.now result
   pub sink : LeavesSink old.sink.now new.sink.now result
   pub small : LeavesSmall old.small.now new.small.now
@@ -89,10 +68,10 @@ NextRead remaining contents at kind true old new result =
     (in_line at.column (at.column + 1 == old.row_format.now.count) null_field) result
 NextRead remaining contents at kind false old new result = CellRead remaining contents at kind old new result
 
--- A bitmap can be read into the area: it is empty, and has room for the longest.
+-- A bitmap can be read into the area: it is empty, and has room for that of 65,535 columns.
 pub record AwaitsBitmap (bitmap : Space) : Type 0 where
   pub empty : bitmap.bytes ≡ []
-  pub room : longest_bitmap ≤ bitmap.room
+  pub room : 8192 ≤ bitmap.room
   pub peak : bitmap.peak ≤ bitmap.room
 
 -- The bits of a row are these: those of a bitmap of these bytes, or none of a ROW.
@@ -108,11 +87,6 @@ BitmapRead remaining NbcRow old new bytes columns result = MatchResult result
     (λ _. (length bytes ≡ bitmap_length columns) × Takes (seen remaining old) (seen remaining new) bytes (length bytes)
     × IsBetween (seen remaining new) × (new.place ≡ old.place + length bytes))
     (λ stop. CutsBytes (bitmap_length columns) (seen remaining old) (seen remaining new) old.place stop)
-
--- The token byte of one more row was taken; or, if the result is false, nothing was, and none is next in the packet.
-abbrev pub TokenTaken : {R : Type 0} → (R → Option (List ℕ)) → RowToken → Payload R → Payload R → Bool → Type 0
-TokenTaken remaining token old new true = Takes (seen remaining old) (seen remaining new) (token_byte token ∷ []) 1 × (new.place ≡ old.place + 1)
-TokenTaken remaining token old new false = (new ≡ old) × BeginNoRow token (buffered new)
 
 -- Rows were read, as many as there are up to here and no more than bytes were taken but one, and none is next in the packet.
 abbrev pub EndsRows : {R : Type 0} → RowToken → Payload R → Payload R → ℕ → Type 0

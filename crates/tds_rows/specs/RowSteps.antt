@@ -1,5 +1,5 @@
 -- What reading a row and putting its line does. Its start is that of a ROW or of an NBCROW.
-use Rattle.std.specs.Prelude.{◌≡◌, ◌+◌, ℕ, Bool, List, length, Option, None, true, Result, Err, IfOk, IfSome, MatchResult}
+use Rattle.std.specs.Prelude.{◌≡◌, ◌+◌, ℕ, Bool, List, [], length, Option, None, true, Result, Err, IfOk, IfSome, MatchResult}
 use Rattle.tds_packet.specs.declared.fault.Stop.{Stop}
 use Rattle.tds_packet.specs.declared.payload.Payload.{Payload}
 use Rattle.tds_packet.specs.Payloads.{seen}
@@ -10,8 +10,8 @@ use Rattle.tds_csv.specs.Sinks.{SinkView, held, stop_of}
 use Rattle.tds_csv.specs.Streaming.{StopsStreaming, Streams}
 use Rattle.tds_values.specs.declared.charset.Charset.{Charset}
 use Rattle.tds_cells.specs.Cells.{Cell}
-use Rattle.tds_cells.specs.Rows.{NbcRow, PlainRow, RowPart, RowToken, WholeRow, nbc_row_start, row, row_so_far}
-use Rattle.tds_cells.specs.Runs.{rows, rows_so_far, rows_start}
+use Rattle.tds_cells.specs.Rows.{NbcRow, PlainRow, RowPart, RowToken, WholeRow, row, row_so_far, row_start}
+use Rattle.tds_cells.specs.Runs.{rows, rows_so_far}
 
 -- A row was read, and its line put.
 pub record ReadsRow (charset : Charset) (start : RowPart) (old new : PayloadView) (place place' : ℕ) (before after : SinkView) : Type 0 where
@@ -34,7 +34,7 @@ pub record ReadsRows (token : RowToken) (charset : Charset) (columns : List Colu
   pub earlier : List (List Cell)
   pub last : List Cell
   pub counted : count ≡ length earlier + 1
-  pub streams : Streams (rows token charset columns) rows_so_far (rows_start token charset columns) old new before after
+  pub streams : Streams (rows token charset columns) rows_so_far (record { before = []; at = row_start token charset columns }) old new before after
       (record { before = earlier; at = WholeRow last })
   pub place_is : place' ≡ place + length streams.bytes
 
@@ -45,8 +45,8 @@ pub record RowsStop (token : RowToken) (charset : Charset) (columns : List Colum
   pub part : RowPart
   pub middle : PayloadView
   pub between : SinkView
-  pub streams : Streams (rows token charset columns) rows_so_far (rows_start token charset columns) old middle before between
-      (record { before = earlier; at = part })
+  pub streams : Streams (rows token charset columns) rows_so_far (record { before = []; at = row_start token charset columns }) old middle before
+      between (record { before = earlier; at = part })
   pub stops : StopsStreaming (row charset) row_so_far part middle new (place + length streams.bytes) between after failed stop
 
 -- Rows were read and their lines put, or the call stopped in one of them.
@@ -64,7 +64,7 @@ abbrev pub SomeRead : {R W : Type 0} → (R → Option (List ℕ)) → (W → Op
 SomeRead remaining contents PlainRow charset columns old new before after result =
     RowsRead remaining contents PlainRow charset columns old new before after result
 SomeRead remaining contents NbcRow charset columns old new before after result = IfOk result (λ count. count ≡ 1)
-    × RowPut remaining contents charset (nbc_row_start columns) old new before after result
+    × RowPut remaining contents charset (row_start NbcRow charset columns) old new before after result
 
 -- A payload or a sink that had stopped gives its stop again, the payload's first, and nothing changes.
 pub record StopsAgain {R W U : Type 0} (contents : W → Option (List ℕ)) (old new : Payload R) (before after : Sink W) (result : Result U Stop) : Type

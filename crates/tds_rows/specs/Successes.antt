@@ -8,7 +8,7 @@ use Rattle.tds_columns.specs.Description.{Column}
 use Rattle.tds_csv.specs.declared.sink.Sink.{Sink}
 use Rattle.tds_values.specs.declared.charset.Charset.{Charset}
 use Rattle.tds_cells.specs.Cells.{Cell}
-use Rattle.tds_cells.specs.Rows.{RowToken, SpellsRowAs, token_byte}
+use Rattle.tds_cells.specs.Rows.{RowToken, SpellsRow, token_byte}
 
 -- The reader tells what it has left, and with it these bytes are to come.
 pub record Brings (seen : PayloadView) (bytes : List ℕ) : Type 0 where
@@ -23,6 +23,6 @@ SucceedsOn remaining old new before after result bytes = Brings (seen remaining 
 
 -- The bytes spell these rows, one at least, each further one after its token byte.
 abbrev pub SpellsRows : RowToken → Charset → List Column → List Cell → List (List Cell) → List ℕ → Type 0
-SpellsRows token charset columns first [] bytes = SpellsRowAs token charset columns first bytes
+SpellsRows token charset columns first [] bytes = SpellsRow token charset columns first bytes
 SpellsRows token charset columns first (next ∷ later) bytes = (front : List ℕ) × (rest : List ℕ) × (bytes ≡ front ++ token_byte token ∷ rest)
-    × SpellsRowAs token charset columns first front × SpellsRows token charset columns next later rest
+    × SpellsRow token charset columns first front × SpellsRows token charset columns next later rest

@@ -1,14 +1,14 @@
 // What a bitmap adds to a row: the columns that are NULL by their bit, and rows that go at once (MS-TDS, NBCROW).
 ghost use Rattle.std.specs.Prelude.{true, false, ◌≡◌, ◌+◌, ◌≤◌, [], List, Ok, ℕ, refl};
-ghost use Rattle.tds_cells.specs.Rows.{BeginNoRow, NbcRow, PlainRow, RowToken, longest_bitmap, token_byte};
+ghost use Rattle.tds_cells.specs.Rows.{BeginNoRow, NbcRow, PlainRow, RowToken, token_byte};
 ghost use Rattle.tds_columns.specs.Description.{Column};
 ghost use Rattle.tds_meter.specs.Space.{Space, empty};
 ghost use Rattle.tds_packet.specs.Payloads.{IsGoing, LeavesPayload, buffered, seen};
 ghost use Rattle.tds_packet.specs.Reads.{KeepsRoom};
-ghost use Rattle.tds_rows.specs.RowReading.{AwaitsBitmap, BitmapRead, IsAtCell, IsInSomeRow, LeavesRows, MarkedBy, NextRead};
+ghost use Rattle.tds_rows.specs.RowReading.{AwaitsBitmap, AwaitsRows, BitmapRead, IsAtCell, LeavesRows, MarkedBy, NextRead};
 ghost use Rattle.tds_rows.specs.RunPuts.{PutsRun};
 ghost use Rattle.tds_cells.specs.MarkedRows.{WritesWholeRows};
-ghost use Rattle.tds_cells.specs.RowFormats.{Knows};
+ghost use Rattle.tds_cells.specs.RowFormats.{Knows, KnowsSome};
 ghost use Rattle.tds_csv.specs.Sinks.{held};
 
 use crate::cell::null::put_null;
@@ -70,7 +70,7 @@ impl Marks for NoBitmap {
 
     ghost token = { PlainRow };
 
-    ghost space = { λ _. empty longest_bitmap };
+    ghost space = { λ _. empty 8192 };
 
     fn empty(&mut self) {}
 
@@ -121,7 +121,8 @@ impl<'r, 't, 'p, 's, 'c, R: Read, W: Write> Rows<'r, 't, 'p, 's, 'c, R, W> {
     /// and takes the token byte after each but the last. It reads nothing and delivers nothing. Of ROWs it takes none.
     #[inline(always)]
     pub(crate) fn put_whole_rows<M: Marks>(&mut self) -> PutRows
-        requires { IsInSomeRow self.old }
+        requires in_row { AwaitsRows self.old.payload.now self.old.sink.now self.old.small.now }
+        requires knows { KnowsSome self.old.row_format.now }
         ensures stays { LeavesRows self.old self.new (Ok result) }
         ensures few { self.old.payload.now.place + result.rows ≤ self.new.payload.now.place }
         ensures none { result.last ≡ true → BeginNoRow M.token (buffered self.new.payload.now) }

@@ -4,9 +4,9 @@ ghost use Rattle.tds_columns.specs.View.{columns_of};
 ghost use Rattle.tds_packet.specs.Reads.{KeepsRoom};
 ghost use Rattle.tds_csv.specs.Sinks.{held, stop_of};
 ghost use Rattle.tds_cells.specs.Cells.{Cell};
-ghost use Rattle.tds_rows.specs.RowReading.{AwaitsNbcRows, AwaitsRows, EndsRows, IsReadyForRow, LeavesLent};
+ghost use Rattle.tds_rows.specs.RowReading.{AwaitsRows, EndsRows, IsReadyForRow, LeavesLent};
 ghost use Rattle.tds_rows.specs.RowSteps.{RowPut, RowsRead, StopsAgain};
-ghost use Rattle.tds_cells.specs.Rows.{NbcRow, PlainRow, SpellsNbcRow, SpellsRow, longest_bitmap, nbc_row_start, row_start};
+ghost use Rattle.tds_cells.specs.Rows.{NbcRow, PlainRow, SpellsRow, row_start};
 ghost use Rattle.tds_cells.specs.RowFormats.{Learns};
 ghost use Rattle.tds_cells.specs.Rows.{BeginNoRow};
 ghost use Rattle.tds_rows.specs.Successes.{SpellsRows, SucceedsOn};
@@ -52,11 +52,11 @@ pub fn row<R: Read, W: Write>(
     requires { IsReadyForRow payload.old sink.old small.old }
     ensures leaves { LeavesLent payload.old payload.new sink.old sink.new small.old small.new result }
     ensures row { payload.old.stopped ≡ None → sink.old.failed ≡ false →
-        RowPut R.remaining W.contents charset (row_start charset (columns_of columns.entry.bytes.now))
+        RowPut R.remaining W.contents charset (row_start PlainRow charset (columns_of columns.entry.bytes.now))
         payload.old payload.new sink.old sink.new result }
     ensures succeeds { payload.old.stopped ≡ None → sink.old.failed ≡ false →
         (cells : List Cell) (bytes more : List ℕ) →
-        SpellsRow charset (columns_of columns.entry.bytes.now) cells bytes →
+        SpellsRow PlainRow charset (columns_of columns.entry.bytes.now) cells bytes →
         SucceedsOn R.remaining payload.old payload.new sink.old sink.new result (bytes ++ more) }
     ensures again { StopsAgain W.contents payload.old payload.new sink.old sink.new result }
 {
@@ -86,7 +86,8 @@ fn rows_in<'a, M: Marks, R: Read, W: Write>(
     sink: &mut Sink<W>,
 ) -> Result<u64, Stop>
     requires learnt { Learns (columns_of columns.bytes.now) charset formats.now learnt }
-    requires rows { AwaitsNbcRows payload.old sink.old small.old (M.space marks.old) }
+    requires rows { AwaitsRows payload.old sink.old small.old }
+    requires fits { 8192 ≤ (M.space marks.old).room }
     ensures leaves { LeavesLent payload.old payload.new sink.old sink.new small.old small.new result }
     ensures room { KeepsRoom (M.space marks.old) (M.space marks.new) }
     ensures ends { IfOk result (λ count. EndsRows M.token payload.old payload.new count) }
@@ -116,7 +117,8 @@ fn rows_by<const N: usize, M: Marks, R: Read, W: Write>(
     sink: &mut Sink<W>,
 ) -> Result<u64, Stop>
     requires few { N ≤ 1024 }
-    requires rows { AwaitsNbcRows payload.old sink.old small.old (M.space marks.old) }
+    requires rows { AwaitsRows payload.old sink.old small.old }
+    requires fits { 8192 ≤ (M.space marks.old).room }
     ensures leaves { LeavesLent payload.old payload.new sink.old sink.new small.old small.new result }
     ensures room { KeepsRoom (M.space marks.old) (M.space marks.new) }
     ensures ends { IfOk result (λ count. EndsRows M.token payload.old payload.new count) }
@@ -140,7 +142,8 @@ fn read_marked<M: Marks, R: Read, W: Write>(
     small: &mut Area,
     sink: &mut Sink<W>,
 ) -> Result<u64, Stop>
-    requires rows { AwaitsNbcRows payload.old sink.old small.old (M.space marks.old) }
+    requires rows { AwaitsRows payload.old sink.old small.old }
+    requires fits { 8192 ≤ (M.space marks.old).room }
     ensures leaves { LeavesLent payload.old payload.new sink.old sink.new small.old small.new result }
     ensures room { KeepsRoom (M.space marks.old) (M.space marks.new) }
     ensures ends { IfOk result (λ count. EndsRows M.token payload.old payload.new count) }
@@ -200,15 +203,15 @@ pub fn nbc_row<R: Read, W: Write>(
     sink: &mut Sink<W>,
 ) -> Result<(), Stop>
     requires ready { IsReadyForRow payload.old sink.old small.old }
-    requires fits { longest_bitmap ≤ bitmap.old.room }
+    requires fits { 8192 ≤ bitmap.old.room }
     ensures leaves { LeavesLent payload.old payload.new sink.old sink.new small.old small.new result }
     ensures bitmap { KeepsRoom bitmap.old bitmap.new }
     ensures row { payload.old.stopped ≡ None → sink.old.failed ≡ false →
-        RowPut R.remaining W.contents charset (nbc_row_start (columns_of columns.entry.bytes.now))
+        RowPut R.remaining W.contents charset (row_start NbcRow charset (columns_of columns.entry.bytes.now))
         payload.old payload.new sink.old sink.new result }
     ensures succeeds { payload.old.stopped ≡ None → sink.old.failed ≡ false →
         (cells : List Cell) (bytes more : List ℕ) →
-        SpellsNbcRow charset (columns_of columns.entry.bytes.now) cells bytes →
+        SpellsRow NbcRow charset (columns_of columns.entry.bytes.now) cells bytes →
         SucceedsOn R.remaining payload.old payload.new sink.old sink.new result (bytes ++ more) }
     ensures again { StopsAgain W.contents payload.old payload.new sink.old sink.new result }
 {
@@ -241,7 +244,8 @@ pub fn read_nbc_rows<R: Read, W: Write>(
     small: &mut Area,
     sink: &mut Sink<W>,
 ) -> Result<u64, Stop>
-    requires { AwaitsNbcRows payload.old sink.old small.old bitmap.old }
+    requires rows { AwaitsRows payload.old sink.old small.old }
+    requires fits { 8192 ≤ bitmap.old.room }
     ensures leaves { LeavesLent payload.old payload.new sink.old sink.new small.old small.new result }
     ensures bitmap { KeepsRoom bitmap.old bitmap.new }
     ensures ends { IfOk result (λ count. EndsRows NbcRow payload.old payload.new count) }

@@ -1,9 +1,10 @@
 // The reading of rows, one or several after one another (MS-TDS, ROW).
-ghost use Rattle.std.specs.Prelude.{◌≡◌, ◌+◌, ◌-◌, ◌<◌, ◌≤◌, ℕ, Bool, List, length, None, Ok, IfOk, IfSome, IsTrue};
+ghost use Rattle.std.specs.Prelude.{◌≡◌, ◌+◌, ◌-◌, ◌<◌, ◌≤◌, ◌∷◌, ℕ, Bool, List, [], length, None, Ok, IfOk, IfSome, IsTrue, MatchBool};
+ghost use Rattle.tds_packet.specs.PayloadView.{Takes};
 ghost use Rattle.tds_text.specs.Fields.{conversion_of};
 ghost use Rattle.tds_cells.specs.Cells.{long_start};
-ghost use Rattle.tds_rows.specs.RowReading.{AwaitsBitmap, CellRead, EndsRows, IsAtCell, IsInRow, IsInSomeRow, LeavesRows, TokenTaken};
-ghost use Rattle.tds_cells.specs.Rows.{RowToken, longest_bitmap, row_start, token_byte};
+ghost use Rattle.tds_rows.specs.RowReading.{AwaitsBitmap, AwaitsRows, CellRead, EndsRows, IsAtCell, LeavesRows};
+ghost use Rattle.tds_cells.specs.Rows.{BeginNoRow, PlainRow, RowToken, row_start, token_byte};
 ghost use Rattle.tds_columns.specs.Description.{Column};
 ghost use Rattle.tds_packet.specs.Payloads.{buffered, seen};
 ghost use Rattle.tds_packet.specs.Reads.{KeepsRoom};
@@ -17,7 +18,7 @@ ghost use Rattle.tds_cells.specs.declared.nulls.Nulls.TheVariants.{Unmarked};
 ghost use Rattle.tds_csv.specs.Sinks.{held};
 ghost use Rattle.tds_rows.specs.CellSteps.{FieldPut};
 ghost use Rattle.tds_rows.specs.RowRuns.{RunRead};
-ghost use Rattle.tds_cells.specs.RowFormats.{BeginsRow, Knows};
+ghost use Rattle.tds_cells.specs.RowFormats.{BeginsRow, Knows, KnowsSome};
 ghost use Rattle.tds_values.specs.Kind as kinds;
 
 use crate::cell::gathered::{gather_scalar, refusal};
@@ -49,11 +50,13 @@ pub(crate) struct Rows<'r, 't, 'p, 's, 'c, R, W> {
 impl<'r, 't, 'p, 's, 'c, R: Read, W: Write> Rows<'r, 't, 'p, 's, 'c, R, W> {
     /// Takes the token byte of one more row if it is next in the packet, and returns whether it is. Reads nothing.
     pub(crate) fn take_token(&mut self, byte: u8) -> bool
-        requires { IsInRow self.old }
+        requires { AwaitsRows self.old.payload.now self.old.sink.now self.old.small.now }
         ensures stays { LeavesRows self.old self.new (Ok result) }
         ensures sink { self.new.sink.now ≡ self.old.sink.now }
-        ensures token { (token : RowToken) → token_byte token ≡ byte →
-            TokenTaken R.remaining token self.old.payload.now self.new.payload.now result }
+        ensures token { (token : RowToken) → token_byte token ≡ byte → MatchBool result
+            (Takes (seen R.remaining self.old.payload.now) (seen R.remaining self.new.payload.now)
+            (token_byte token ∷ []) 1 × (self.new.payload.now.place ≡ self.old.payload.now.place + 1))
+            ((self.new.payload.now ≡ self.old.payload.now) × BeginNoRow token (buffered self.new.payload.now)) }
     {
         let bytes = self.payload.buffered();
         if bytes.is_empty() || bytes[0] != byte {
@@ -84,7 +87,7 @@ impl<'r, 't, 'p, 's, 'c, R: Read, W: Write> Rows<'r, 't, 'p, 's, 'c, R, W> {
     // Stops at the next cell, which is whole in the packet and whose value, or the length before it, is refused. What is left of
     // the packet is handed out.
     fn refuse(&mut self, at: Cursor<'c>, kind: &Kind, fault: ValueFault) -> Result<(), Stop>
-        requires in_row { IsInRow self.old }
+        requires in_row { AwaitsRows self.old.payload.now self.old.sink.now self.old.small.now }
         requires valid { IsTrue (kinds.is_valid kind.now) }
         requires refused { IsLeftFor self.old.row_format.now.charset kind.now
             (buffered self.old.payload.now) (Refused fault) }
@@ -104,7 +107,7 @@ impl<'r, 't, 'p, 's, 'c, R: Read, W: Write> Rows<'r, 't, 'p, 's, 'c, R, W> {
         column: u16,
         last: bool,
     ) -> Result<(), Stop>
-        requires { IsInRow self.old }
+        requires { AwaitsRows self.old.payload.now self.old.sink.now self.old.small.now }
         ensures leaves { LeavesRows self.old self.new result }
         ensures field { FieldPut R.remaining W.contents (long_start (conversion_of content) reach) column last
             self.old.payload.now self.new.payload.now self.old.sink.now self.new.sink.now result }
@@ -155,7 +158,7 @@ impl<'r, 't, 'p, 's, 'c, R: Read, W: Write> Rows<'r, 't, 'p, 's, 'c, R, W> {
     // block, over the ends of ROWs, puts their text where it waits, and steps over them. Returns how many rows it began. It reads
     // nothing and delivers nothing.
     fn put_within(&mut self, at: &mut Cursor<'c>, nulls: Nulls) -> u64
-        requires in_row { IsInRow self.old }
+        requires in_row { AwaitsRows self.old.payload.now self.old.sink.now self.old.small.now }
         requires some { 0 < self.old.row_format.now.count }
         requires covers { Covers nulls self.old.row_format.now.count }
         requires room { length self.old.sink.now.output.now.bytes + CELL_ROOM < 4096 }
@@ -182,7 +185,7 @@ impl<'r, 't, 'p, 's, 'c, R: Read, W: Write> Rows<'r, 't, 'p, 's, 'c, R, W> {
     // Reads the next cells of the row, as many as are NULL by a bit or whole in the packet, aren't in several chunks and have room
     // in a small text, puts that text over the end of the block, and steps over them. Begins no row.
     fn put_via_scratch(&mut self, at: &mut Cursor<'c>, nulls: Nulls) -> Result<u64, Stop>
-        requires in_row { IsInRow self.old }
+        requires in_row { AwaitsRows self.old.payload.now self.old.sink.now self.old.small.now }
         requires some { 0 < self.old.row_format.now.count }
         requires covers { Covers nulls self.old.row_format.now.count }
         ensures { RunRead R.remaining W.contents nulls.entry at.old at.new self.old self.new result }
@@ -199,7 +202,7 @@ impl<'r, 't, 'p, 's, 'c, R: Read, W: Write> Rows<'r, 't, 'p, 's, 'c, R, W> {
     /// text, and steps over them. Returns how many rows it began.
     #[inline(always)]
     pub(crate) fn put_run(&mut self, at: &mut Cursor<'c>, nulls: Nulls) -> Result<u64, Stop>
-        requires in_row { IsInRow self.old }
+        requires in_row { AwaitsRows self.old.payload.now self.old.sink.now self.old.small.now }
         requires some { 0 < self.old.row_format.now.count }
         requires covers { Covers nulls self.old.row_format.now.count }
         ensures { RunRead R.remaining W.contents nulls.entry at.old at.new self.old self.new result }
@@ -212,11 +215,11 @@ impl<'r, 't, 'p, 's, 'c, R: Read, W: Write> Rows<'r, 't, 'p, 's, 'c, R, W> {
 
     /// Reads a row cell after cell, and puts its line.
     pub(crate) fn row(&mut self) -> Result<(), Stop>
-        requires { IsInRow self.old }
+        requires { AwaitsRows self.old.payload.now self.old.sink.now self.old.small.now }
         ensures leaves { LeavesRows self.old self.new result }
         ensures row { (columns : List Column) → Knows self.old.row_format.now columns →
             RowPut R.remaining W.contents self.old.row_format.now.charset
-            (row_start self.old.row_format.now.charset columns)
+            (row_start PlainRow self.old.row_format.now.charset columns)
             self.old.payload.now self.new.payload.now self.old.sink.now self.new.sink.now result }
     {
         let mut at = self.row_format.start();
@@ -231,7 +234,8 @@ impl<'r, 't, 'p, 's, 'c, R: Read, W: Write> Rows<'r, 't, 'p, 's, 'c, R, W> {
     /// many rows it read.
     #[inline(always)]
     pub(crate) fn row_by<M: Marks>(&mut self, marks: &mut M) -> Result<u64, Stop>
-        requires some { IsInSomeRow self.old }
+        requires in_row { AwaitsRows self.old.payload.now self.old.sink.now self.old.small.now }
+        requires knows { KnowsSome self.old.row_format.now }
         requires awaits { AwaitsBitmap (M.space marks.old) }
         ensures leaves { LeavesRows self.old self.new result }
         ensures room { KeepsRoom (M.space marks.old) (M.space marks.new) }
@@ -263,8 +267,9 @@ impl<'r, 't, 'p, 's, 'c, R: Read, W: Write> Rows<'r, 't, 'p, 's, 'c, R, W> {
     /// how many they are.
     #[inline(always)]
     pub(crate) fn rows<M: Marks>(&mut self, marks: &mut M) -> Result<u64, Stop>
-        requires some { IsInSomeRow self.old }
-        requires room { longest_bitmap ≤ (M.space marks.old).room }
+        requires in_row { AwaitsRows self.old.payload.now self.old.sink.now self.old.small.now }
+        requires knows { KnowsSome self.old.row_format.now }
+        requires room { 8192 ≤ (M.space marks.old).room }
         ensures leaves { LeavesRows self.old self.new result }
         ensures room { KeepsRoom (M.space marks.old) (M.space marks.new) }
         ensures ends { IfOk result (λ count. EndsRows M.token self.old.payload.now self.new.payload.now count) }

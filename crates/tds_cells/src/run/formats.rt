@@ -1,10 +1,12 @@
 // A run over cells by their formats, whose columns follow one another in a row.
-ghost use Rattle.std.specs.Prelude.{◌≡◌, ◌==◌, ◌&&◌, ◌<◌, ◌≤◌, ◌+◌, ◌-◌, ◌*◌, drop, length, take, true, MatchOption};
+ghost use Rattle.std.specs.Prelude.{◌≡◌, ◌==◌, ◌&&◌, ◌<◌, ◌≤◌, ◌+◌, ◌-◌, ◌*◌, drop, get_or, length, take, true, IfNone, IfSome, MatchOption};
 ghost use Rattle.tds_values.specs.declared.charset.Charset.{Charset};
-ghost use Rattle.tds_cells.specs.FormatRuns.{AreNumbers, FirstLeft, IsRefusedAfter, NumbersWithin, RefusesRow, RunsFormats, RunsRow, WritesFields};
+ghost use Rattle.tds_cells.specs.FormatRuns.{AreNumbers, FirstLeft, NumbersWithin, RefusesRow, RunsFormats, WritesFields};
 ghost use Rattle.tds_cells.specs.FormatRuns.{run_since};
-ghost use Rattle.tds_cells.specs.Formats.{AreLaidOut};
+ghost use Rattle.tds_cells.specs.CellTexts.{IsScalarLeft};
+ghost use Rattle.tds_cells.specs.Formats.{Each};
 ghost use Rattle.tds_cells.specs.Layouts.{IsLaidOut};
+ghost use Rattle.tds_cells.specs.declared.layout.CellFormat.{CellFormat};
 ghost use Rattle.tds_cells.specs.Runs.{AloneWritten};
 
 use crate::layout::CellFormat;
@@ -41,7 +43,7 @@ fn write_fields(
     bytes: &[u8],
     to: &mut [u8],
 ) -> FormatsRun
-    requires laid { AreLaidOut charset formats.now }
+    requires laid { Each (λ f. IsLaidOut charset f.kind f.layout) formats.now }
     requires room { CELL_ROOM ≤ length to.old }
     ensures ends { result.cells ≡ 0 → FirstLeft charset formats.now bytes.now (length to.old) }
     ensures left { FirstLeft charset (drop result.cells formats.now) (drop result.used bytes.now)
@@ -105,8 +107,9 @@ fn write_numbers<const COUNTED: bool>(
     requires numbers { AreNumbers COUNTED formats.now (length bytes.now - from.used) (length to.old - from.made) }
     ensures kept { take from.made to.new ≡ take from.made to.old }
     ensures begun { (from.used ≤ result.used) × (from.made ≤ result.made) }
-    ensures ends { result.cells < length formats.now →
-        IsRefusedAfter formats.now (drop from.used bytes.now) (run_since from result) }
+    ensures ends { result.cells < length formats.now → (format : CellFormat) →
+        IsScalarLeft (get_or formats.now result.cells format).kind
+        (drop (result.used - from.used) (drop from.used bytes.now)) }
     ensures left { result.used < length bytes.now }
     ensures fields { (charset : Charset) →
         WritesFields charset formats.now 0 (drop from.used bytes.now) (drop from.made to.new) (run_since from result) }
@@ -170,7 +173,7 @@ pub(crate) fn run_formats(
     bytes: &[u8],
     to: &mut [u8],
 ) -> FormatsRun
-    requires { AreLaidOut charset formats.now }
+    requires { Each (λ f. IsLaidOut charset f.kind f.layout) formats.now }
     ensures left { FirstLeft charset (drop result.cells formats.now) (drop result.used bytes.now)
         (length to.old - result.made) }
     ensures run { RunsFormats charset formats.now column ends bytes.now (length to.old) to.new result }
@@ -205,8 +208,12 @@ pub(crate) fn run_row<const COUNTED: bool>(
     requires some { 0 < length formats.now }
     requires numbers { AreNumbers COUNTED formats.now (length bytes.now - from.used) (length to.old - from.made) }
     ensures kept { take from.made to.new ≡ take from.made to.old }
-    ensures row { MatchOption result (RefusesRow formats.now (drop from.used bytes.now))
-        (λ run. RunsRow formats.now from bytes.now (length to.old) to.new run) }
+    ensures refused { IfNone result (RefusesRow formats.now (drop from.used bytes.now)) }
+    ensures used { IfSome result (λ run. (from.used ≤ run.used) × (run.used < length bytes.now)) }
+    ensures made { IfSome result (λ run. (from.made ≤ run.made) × (run.made ≤ length to.old)) }
+    ensures row { IfSome result (λ run. (run.cells ≡ length formats.now) × ((charset : Charset) →
+        RunsFormats charset formats.now 0 true (drop from.used bytes.now) (length to.old - from.made)
+        (drop from.made to.new) (run_since from run))) }
 {
     let run = write_numbers::<COUNTED>(formats, from, bytes, to);
     if run.cells < formats.len() {

@@ -1,8 +1,8 @@
 // A scalar cell across the ends of packets: its bytes are gathered in the small area.
-ghost use Rattle.std.specs.Prelude.{◌≡◌, ◌+◌, ◌<◌, ◌≤◌, ◌^◌, IsTrue, None, Some};
+ghost use Rattle.std.specs.Prelude.{[], ◌≡◌, ◌+◌, ◌<◌, ◌≤◌, ◌^◌, IsTrue, None, Some};
 ghost use Rattle.tds_packet.specs.Payloads.{IsGoing};
 ghost use Rattle.tds_cells.specs.Cells.{ScalarBytes, ScalarLength, cell_start, shape};
-ghost use Rattle.tds_rows.specs.CellSteps.{CellGathered, IsGathering, LeavesGathering, longest_cell, refusal};
+ghost use Rattle.tds_rows.specs.CellSteps.{CellGathered, LeavesGathering, refusal};
 ghost use Rattle.tds_values.specs.Front.{value_start};
 ghost use Rattle.tds_values.specs.declared.charset.Charset as sets;
 ghost use Rattle.tds_values.specs.Kind as kinds;
@@ -56,7 +56,8 @@ fn gather_fixed<R: Read>(
     column: u16,
     small: &mut Area,
 ) -> Result<(), Stop>
-    requires gathering { IsGathering payload.old small.old }
+    requires going { IsGoing payload.old }
+    requires small { (small.old.bytes ≡ []) × (18 ≤ small.old.room) }
     requires fixed { kinds.fixed_length kind.now ≡ Some n }
     requires longest { n ≤ LONGEST_VALUE }
     ensures leaves { LeavesGathering payload.old payload.new small.old small.new result }
@@ -73,7 +74,8 @@ fn gather_counted<R: Read>(
     column: u16,
     small: &mut Area,
 ) -> Result<(), Stop>
-    requires gathering { IsGathering payload.old small.old }
+    requires going { IsGoing payload.old }
+    requires small { (small.old.bytes ≡ []) × (18 ≤ small.old.room) }
     requires valid { IsTrue (kinds.is_valid kind.now) }
     requires scalar { IsTrue (kinds.is_scalar kind.now) }
     requires counted { kinds.fixed_length kind.now ≡ None }
@@ -103,7 +105,7 @@ pub(crate) fn gather_scalar<R: Read>(
     requires going { IsGoing payload.old }
     requires valid { IsTrue (kinds.is_valid kind.now) }
     requires scalar { IsTrue (kinds.is_scalar kind.now) }
-    requires room { longest_cell ≤ small.old.room }
+    requires room { 18 ≤ small.old.room }
     ensures leaves { LeavesGathering payload.old payload.new small.old small.new result }
     ensures cell { (charset : sets.Charset) →
         CellGathered R.remaining kind.now (cell_start kind.now (shape charset kind.now)) column

@@ -1,8 +1,8 @@
 // The lengths and totals of long values (MS-TDS, Partially Length-prefixed Bytes).
-ghost use Rattle.std.specs.Prelude.{◌≡◌, ◌==◌, ◌||◌, ◌%◌, ◌≤◌, ◌<◌, None, Some, MatchResult, if◌then◌else◌, nat_le};
+ghost use Rattle.std.specs.Prelude.{◌≡◌, ◌==◌, ◌||◌, ◌%◌, ◌-◌, ◌^◌, ◌≤◌, ◌<◌, None, Some, MatchResult, if◌then◌else◌, nat_le};
 ghost use Rattle.tds_packet.specs.Payloads.{IsGoing, LeavesPayload, seen};
 ghost use Rattle.tds_rows.specs.LongCells.{CutsBytes, LengthTaken, ReadsNumber, chunk_length_fault, end_fault};
-ghost use Rattle.tds_cells.specs.Cells.{known_total, null_total, unknown_total, unless};
+ghost use Rattle.tds_cells.specs.Cells.{known_total, unless};
 ghost use Rattle.tds_packet.specs.declared.fault.Fault.TheVariants.{OddText};
 
 use byteorder::{ByteOrder, LittleEndian};
@@ -55,8 +55,8 @@ pub(crate) fn read_total<R: Read>(
 ) -> Result<Option<Option<u64>>, Stop>
     requires going { IsGoing payload.old }
     requires some { 0 < unit }
-    ensures { LengthTaken R.remaining 8 (λ n. unless (nat_le unknown_total n || (n % unit == 0)) (OddText column))
-        (λ n. if n == null_total then None else Some (known_total n)) payload.old payload.new result }
+    ensures { LengthTaken R.remaining 8 (λ n. unless (nat_le (2 ^ 64 - 2) n || (n % unit == 0)) (OddText column))
+        (λ n. if n == (2 ^ 64 - 1) then None else Some (known_total n)) payload.old payload.new result }
 {
     let place = payload.place();
     match read_number(payload, 8)? {

@@ -4,7 +4,7 @@ ghost use Rattle.tds_packet.specs.Payloads.{IsGoing, IsSound, LeavesPayload, see
 ghost use Rattle.tds_rows.specs.PassedCells.{AnyData, CellPassed, CutsPassing, PassesData};
 ghost use Rattle.tds_text.specs.Conversion.{Conversion};
 ghost use Rattle.tds_cells.specs.Cells.{ChunkLength, Cell, LongShape, SpellsCell, cell_start, return_charset, shape};
-ghost use Rattle.tds_rows.specs.CellSteps.{LeavesGathering, longest_cell};
+ghost use Rattle.tds_rows.specs.CellSteps.{LeavesGathering};
 ghost use Rattle.tds_values.specs.Front.{scalar_size, value_bytes, value_length};
 ghost use Rattle.tds_values.specs.Scalar.{read_of};
 ghost use Rattle.tds_rows.specs.Successes.{Brings};
@@ -103,7 +103,7 @@ fn pass_scalar<R: Read>(payload: &mut Payload<R>, kind: &Kind, small: &mut Area)
     requires going { IsGoing payload.old }
     requires valid { IsTrue (kinds.is_valid kind.now) }
     requires scalar { IsTrue (kinds.is_scalar kind.now) }
-    requires room { longest_cell ≤ small.old.room }
+    requires room { 18 ≤ small.old.room }
     ensures leaves { LeavesGathering payload.old payload.new small.old small.new result }
     ensures cell { CellPassed R.remaining (cell_start kind.now (shape return_charset kind.now))
         payload.old payload.new result }
@@ -151,7 +151,7 @@ pub fn pass_over<R: Read>(
     small: &mut Area,
 ) -> Result<(), Stop>
     requires sound { IsSound payload.old }
-    requires room { longest_cell ≤ small.old.room }
+    requires room { 18 ≤ small.old.room }
     requires valid { IsTrue (kinds.is_valid kind.now) }
     ensures leaves { LeavesGathering payload.old payload.new small.old small.new result }
     ensures cell { payload.old.stopped ≡ None →

@@ -9,7 +9,7 @@ returns-clause-cell c = λ charset kind column value bytes are.
 
 row_as_spelt : (token : N.RowToken) (charset : N.Charset) (columns : N.List N.Column) (cells : N.List N.Cell) (bytes : N.List N.ℕ)
     → (token ≡ N.NbcRow → 0 < N.length columns) → N.AreBytes bytes
-    → N.SpellsRowAs token charset columns cells bytes ↔ N.Spelt (N.row charset) (N.token_start token charset columns) bytes (N.WholeRow cells)
+    → N.SpellsRow token charset columns cells bytes ↔ N.Spelt (N.row charset) (N.row_start token charset columns) bytes (N.WholeRow cells)
 row_as_spelt N.PlainRow _ _ _ _ _ are = (λ h. N.RowLaws.row_is_read _ _ _ _ h, λ k. N.RowMeaning.row_is_spelt _ _ are k)
 row_as_spelt N.NbcRow _ _ _ _ some are =
     (λ h. N.RowLaws.nbc_row_is_read _ _ _ _ (N.RowLaws.some_bitmap _ (some N.refl)) h, λ k. N.RowMeaning.nbc_row_is_spelt _ _ are k)

@@ -14,4 +14,4 @@ pub returns-in_err-row_by-clause-succeeds : goal.returns-in_err-row_by-clause-su
 returns-in_err-row_by-clause-succeeds g c = λ going writing cells bytes more spelt.
     streaming_succeeds row_so_far g.R.Read.remaining g.W.Write.contents c.args.payload.now c.payload-1.given.0 c.args.sink.now
     c.sink-1.given.0 _ _ _
-    (returns-in_err-row_by-clause-row g c going writing) (nbc_row_is_read _ _ _ _ (some_bitmap _ c.args.columns.some) spelt) refl
+    (returns-in_err-row_by-clause-row g c going writing) (nbc_row_is_read _ _ cells bytes (some_bitmap _ c.args.columns.some) spelt) refl

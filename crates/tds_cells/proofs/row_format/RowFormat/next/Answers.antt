@@ -1,5 +1,4 @@
 use Rattle.tds_cells.proofs as N
 
 pub returns-clause-taken : Rattle.tds_cells.proofs.row_format.RowFormat.next.Goals.returns-clause-taken
-returns-clause-taken c = λ columns knows ahead.
-    N.RowFormatSteps.takes (grind N.arith) c.step.ensures.further (c.step.ensures.ahead columns knows ahead)
+returns-clause-taken c = λ columns knows ahead. (grind N.arith, c.step.ensures.ahead columns knows ahead)

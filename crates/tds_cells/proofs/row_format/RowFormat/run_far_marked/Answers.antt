@@ -40,6 +40,6 @@ loop-used-preserved c =
                 let taken = N.RowFormatSteps.takes (c.in-Some.ensures.next columns knows ran.ahead) further (c.pass.ensures.ahead columns knows ran.ahead) in
                 let last = c.is_last-last.ensures ∙ N.RowFormatSteps.last_one _ _ _ _ _ knows.counted taken.next in
                 let whole = rw last at (rw (N.sym (N.all_after c.args.bytes.now l.used)) at cell.1.whole) in
-                rw new_is (runs_more _ _ _ _ _ _ _ _ _ l.invariant.made within ran (runs_column taken N.refl (rw clear whole)));
+                rw new_is (runs_more _ _ _ _ _ _ _ _ _ l.invariant.made within ran (runs_column taken N.refl clear whole));
           })
     ]

@@ -11,7 +11,7 @@ pub loop-formats-preserved-in_default : goal.loop-formats-preserved-in_default
 loop-formats-preserved-in_default g c =
     let fast = c.run_fast-fast in
     let end = c.in_default.ensures.end refl in
-    known_ran (λ walk. row_begun {start = place walk 0} c.requires.known.1 end (grind arith)
+    known_ran (λ walk. row_begun {start = place walk 0} c.requires.some end (grind arith)
     (grind (arith, place_known))
     (rows_further fast.new.to _ (ran_at c.loop-formats.invariant walk) (ran_at fast.ensures.rows walk)))
 

@@ -23,7 +23,7 @@ loop-to-preserved g c =
     let end = c.clear_end-end in
     let ran = c.run_cells-cells in
     let cells = ran.result in
-    let within = ran.ensures.within.before end.ensures.least in
+    let within = ran.ensures.within.before end.ensures.within.0 in
     let some : cells.made ≤ length ran.new.to = search arith in
     record {
       used = search arith;

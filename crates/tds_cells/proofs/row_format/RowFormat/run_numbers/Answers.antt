@@ -14,16 +14,15 @@ pub loop-used-preserved : goal.loop-used-preserved
 loop-used-preserved g c =
     let l = c.loop-used in
     let row_format = c.args.self.now in
-    let known = c.requires.known in
     let run = c.in-Some-run_row.run' in
-    let row = c.in-Some-run_row.ensures.row in
+    let done = c.in-Some-run_row.ensures in
     let whole : run.cells ≡ row_format.count = grind (arith, row_length) in
     record {
       same = search arith;
-      ran = known_ran (λ walk. row_begun {start = N.place walk 0} known.1 (omega arith) (grind arith)
+      ran = known_ran (λ walk. row_begun {start = N.place walk 0} c.requires.some (omega arith) (grind arith)
           (grind (arith, place_known))
-          (row_far row_format c.row-row.result.now run c.run_row.new.to known.0 known.1 c.row-row.ensures.row whole c.run_row.ensures.kept
-          (search (arith, N.rules)) row.begun (row.row row_format.charset) (ran_at l.invariant.ran walk)));
+          (row_far row_format c.row-row.result.now run c.run_row.new.to c.requires.all c.requires.some c.row-row.ensures.row whole c.run_row.ensures.kept
+          (search (arith, N.rules)) (done.used.0, done.made.0) (done.row.1 row_format.charset) (ran_at l.invariant.ran walk)));
     }
 
 pub returns-in_default-run_row-clause-rows : goal.returns-in_default-run_row-clause-rows
@@ -34,11 +33,10 @@ pub returns-then-not-begins_row-clause-rows : goal.returns-then-not-begins_row-c
 returns-then-not-begins_row-clause-rows g c =
     let l = c.loop-used in
     let row_format = c.args.self.now in
-    let known = c.requires.known in
     let run = c.in-Some-run_row.run' in
-    let row = c.in-Some-run_row.ensures.row in
+    let done = c.in-Some-run_row.ensures in
     let all : N.length c.row-row.result.now ≡ row_format.count = grind (arith, row_length) in
-    let whole : run.cells ≡ row_format.count = row.whole ∙ all in
+    let whole : run.cells ≡ row_format.count = done.row.0 ∙ all in
     rw (c.ended.ensures, all) (known_ran (λ walk.
-    row_far row_format c.row-row.result.now run c.run_row.new.to known.0 known.1 c.row-row.ensures.row whole c.run_row.ensures.kept
-    (search (arith, N.rules)) row.begun (row.row row_format.charset) (ran_at l.invariant.ran walk)))
+    row_far row_format c.row-row.result.now run c.run_row.new.to c.requires.all c.requires.some c.row-row.ensures.row whole c.run_row.ensures.kept
+    (search (arith, N.rules)) (done.used.0, done.made.0) (done.row.1 row_format.charset) (ran_at l.invariant.ran walk)))

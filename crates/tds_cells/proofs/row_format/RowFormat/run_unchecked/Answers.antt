@@ -17,13 +17,13 @@ returns-then-cells-formats-clause-rows c = known_ran (λ walk. rw c.none.ensures
 pub returns-then-cells-formats-clause-ends : goal.returns-then-cells-formats-clause-ends
 returns-then-cells-formats-clause-ends c =
     let row_format = c.args.self.now in
-    let row = row_length row_format c.row-formats.result.now c.requires.known.0 c.row-formats.ensures.row in
+    let row = row_length row_format c.row-formats.result.now c.requires.all c.row-formats.ensures.row in
     λ walk. rw c.none.ensures (grind (arith, N.RowFormatSteps.none_next))
 
 pub loop-rest-init : goal.loop-rest-init
 loop-rest-init c =
     let row_format = c.args.self.now in
-    let row = row_length row_format c.row-formats.result.now c.requires.known.0 c.row-formats.ensures.row in
+    let row = row_length row_format c.row-formats.result.now c.requires.all c.row-formats.ensures.row in
     let comma = c.write_comma-made in
     let fits : comma.result ≤ length comma.new.to = search (arith, rules) in
     let made_is = comma_made comma.result c.args.column comma.new.to fits (comma.ensures.text []) in
@@ -43,7 +43,7 @@ pub loop-rest-preserved-then-cells-formats-2 : goal.loop-rest-preserved-then-cel
 loop-rest-preserved-then-cells-formats-2 c =
     let l = c.loop-rest in
     let row_format = c.args.self.now in
-    let all = c.requires.known.0 in
+    let all = c.requires.all in
     let formats = c.row-formats.result.now in
     let row = row_length row_format formats all c.row-formats.ensures.row in
     let written = c.in-Some.written in
@@ -77,7 +77,7 @@ pub returns-then-not-row_follows-clause-rows : goal.returns-then-not-row_follows
 returns-then-not-row_follows-clause-rows c =
     let l = c.loop-rest in
     let row_format = c.args.self.now in
-    let all = c.requires.known.0 in
+    let all = c.requires.all in
     let formats = c.row-formats.result.now in
     let row = row_length row_format formats all c.row-formats.ensures.row in
     let written = c.in-Some.written in
@@ -102,7 +102,7 @@ pub loop-rest-preserved : goal.loop-rest-preserved
 loop-rest-preserved c =
     let l = c.loop-rest in
     let row_format = c.args.self.now in
-    let all = c.requires.known.0 in
+    let all = c.requires.all in
     let formats = c.row-formats.result.now in
     let row = row_length row_format formats all c.row-formats.ensures.row in
     let written = c.in-Some.written in
@@ -125,10 +125,10 @@ loop-rest-preserved c =
       within = omega arith;
       rest = grind arith;
       size = search (arith, rules);
-      some = c.requires.known.1;
+      some = c.requires.some;
       begun = omega arith;
       comma = grind (arith, N.append-nil);
-      ran = rw (none, next.0, left.0) (known_ran (λ walk. row_begun {start = place walk 0} c.requires.known.1 (omega (arith, last))
+      ran = rw (none, next.0, left.0) (known_ran (λ walk. row_begun {start = place walk 0} c.requires.some (omega (arith, last))
           (grind (arith, begins_in))
           (grind (arith, place_known))
           (rest_more l.rest.now l.cells written.used l.made written.made end.result _ format new end.new.to true
@@ -153,7 +153,7 @@ pub returns-clause-ends : goal.returns-clause-ends
 returns-clause-ends c =
     let l = c.loop-rest in
     let row_format = c.args.self.now in
-    let all = c.requires.known.0 in
+    let all = c.requires.all in
     let formats = c.row-formats.result.now in
     let bytes = c.args.bytes.now in
     λ walk. rw (c.ended-2.ensures, c.comma_size.ensures) (elim c.loop-rest-test.branch [

@@ -33,16 +33,21 @@ returns-clause-row g c =
     let some : 0 < run.result.cells = omega arith in
     let x = ended_run at end.result run.result.made run.new.to end.new.to _ some (wrote Windows1252) run.ensures.begun.1 end.ensures.most end.auto.to
     end.ensures.text in
-    record {
-      whole = all;
-      left = run.ensures.left;
-      begun = (run.ensures.begun.0, x.0.0);
-      most = omega arith;
-      row = λ charset. fields_run _ _ _ some (wrote charset) (omega arith) (grind (arith, N.eq-eqb));
-    }
+    (all, λ charset. fields_run _ _ _ some (wrote charset) (omega arith) (grind (arith, N.eq-eqb)))
 
-pub returns-then-run-formats-clause-row : goal.returns-then-run-formats-clause-row
-returns-then-run-formats-clause-row g c =
+pub returns-clause-used : goal.returns-clause-used
+returns-clause-used g c = (c.write_numbers-run.ensures.begun.0, c.write_numbers-run.ensures.left)
+
+pub returns-clause-made : goal.returns-clause-made
+returns-clause-made g c =
+    let run = c.write_numbers-run in
+    let end = c.write_line_end-made in
+    let x = ended_run c.args.from.made end.result run.result.made run.new.to end.new.to _ (omega arith)
+    (run.ensures.fields Windows1252) run.ensures.begun.1 end.ensures.most end.auto.to end.ensures.text in
+    (x.0.0, omega arith)
+
+pub returns-then-run-formats-clause-refused : goal.returns-then-run-formats-clause-refused
+returns-then-run-formats-clause-refused g c =
     let run = c.write_numbers-run in
     record {
       run = N.run_since c.args.from run.result;

@@ -3,6 +3,7 @@ use Rattle.tds_rows.proofs.Words.{sym, passed}
 use Rattle.tds_rows.proofs.NextSteps.{cell_read, stays, stays_after, stays_on}
 use Rattle.tds_rows.proofs.NullSteps.{cell_reads, cell_stops, row_begins, row_ends}
 use Rattle.tds_cells.proofs.RowTexts.{none_ahead}
+use Rattle.tds_cells.proofs.RowFormatSteps.{takes}
 
 pub loop-format-init : goal.loop-format-init
 loop-format-init g c = record {
@@ -18,7 +19,8 @@ returns-in_err-put_cell-clause-row g c =
     let l = c.loop-format in
     rw (← l.invariant.stays.same.3) (λ columns knows.
     let reads = l.invariant.reads columns knows in
-    let taken = c.in-Some.ensures.taken columns knows reads.0 in
+    let next = c.in-Some.ensures.taken columns knows reads.0 in
+    let taken = takes next.0 c.in-Some.ensures.further next.1 in
     passed _ _ _ _ c.from_residual.ensures.1 (cell_stops (rw taken.next at reads.1) (cell_read _ c.in_err-put_cell.ensures knows taken)))
 
 pub loop-format-preserved : goal.loop-format-preserved
@@ -29,7 +31,8 @@ loop-format-preserved g c =
       stays = stays_on l.invariant.stays (stays_after l.invariant.stays.in_row done.leaves);
       reads = rw done.leaves.same.3 (λ columns knows.
           let reads = l.invariant.reads columns knows in
-          let taken = c.in-Some.ensures.taken columns knows reads.0 in
+          let next = c.in-Some.ensures.taken columns knows reads.0 in
+          let taken = takes next.0 c.in-Some.ensures.further next.1 in
           let y = cell_read _ done knows taken in
           (taken.ahead, rw (sym taken.further) at (cell_reads (none_ahead _ _) (rw taken.next at reads.1) y)));
     }
