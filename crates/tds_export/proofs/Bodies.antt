@@ -125,7 +125,7 @@ module _ (charset : Charset) (room : ℕ) {n place middle : ℕ} {tokens : List 
       → N.StopsReading (response charset room) (in_length which tokens) a c place (in_body which tokens n) stop
   after_length {stop} some stops =
       let to : (response charset room).add (in_length which tokens) element ≡ in_body which tokens n = grind (arith, N.choose_false, N.ne_eqb) in
-      N.stops_after _ _ _ a b c _ _ _ (reads_one _ _ a b _ _ (record { some = omega arith; whole = l.two; free = grind arith })
+      N.stops_after _ _ _ a b c _ _ _ (reads_one _ _ a b _ _ (grind arith)
       l.takes to) (rw l.at at stops)
 
   -- the body was read
@@ -136,10 +136,6 @@ module _ (charset : Charset) (room : ℕ) {n place middle : ℕ} {tokens : List 
     spelt = body_is_read _ _ _ _ l.two (grind arith) (grind arith) (body_free _ body holds);
     takes = N.takes_both a b c _ _ l.takes (rw len takes);
   }
-
--- no token is a notice and isn't one
-no_notice : {P : Type 0} (which : Bodied) → is_notice which ≡ false → is_notice which ≡ true → P
-no_notice = grind arith
 
 module _ (charset : Charset) (room : ℕ) {tokens : List Token} {which : Bodied} (notice : is_notice which ≡ true) where
   -- the Length is cut
@@ -234,7 +230,7 @@ module _ (charset : Charset) {tokens : List Token} {s : N.Progress} {u : N.View}
     pub quiet_reads : {place : ℕ} (body : List ℕ) → length body ≡ n → Takes b c body n → place ≡ middle + n
         → ReadsQuiet charset (in_length which tokens) tokens u c place s
     quiet_reads body len takes at =
-        quietly begun refl (bare_reads begun _ (body_reads _ _ l (no_notice _ quiet) _ len takes (no_notice _ quiet)) (grind (arith, N.length-append)) refl
+        quietly begun refl (bare_reads begun _ (body_reads _ _ l (grind arith) _ len takes (grind arith)) (grind (arith, N.length-append)) refl
         (bare_body _ _)
         (tracks_body begun.tracks _ _ quiet))
 
@@ -242,4 +238,4 @@ module _ (charset : Charset) {tokens : List Token} {s : N.Progress} {u : N.View}
     pub quiet_stops : {own stop : Stop} {part : List ℕ} → length part < n → Ends b c part own → stop ≡ N.began_at middle own
         → StopsQuiet charset (in_length which tokens) u c stop
     quiet_stops fewer ends is = stops_quietly refl (record { bytes = begun.holds.bytes; peak = begun.holds.peak }) begun.delivered begun.going
-        (after_length _ _ l (no_notice _ quiet) (omega arith) (part_cut refl refl fewer ends is))
+        (after_length _ _ l (grind arith) (omega arith) (part_cut refl refl fewer ends is))

@@ -4,7 +4,7 @@ use N.{Bool, Cell, CellPart, ChunkData, ChunkLength, Column, Conversion, Decimal
 use N.{WholeCell, WholeRow, Windows1252, [], arith, before, bit, cell, choose, false, is_valid, le_true, length, marked, refl, row, suc, sym}
 use N.{true, unit, zero, zeros, ℕ, ⊤, ◌%◌, ◌&&◌, ◌++◌, ◌+◌, ◌<◌, ◌∙◌, ◌∷◌, ◌≡◌, ◌≤◌}
 use N.ResponseLaws.{spelt_both, spelt_one}
-use N.SomeBytes.{exactly, little_below, one_of_four}
+use N.SomeBytes.{exactly, little_below}
 
 -- the conversions that Windows-1252 names: none judges data before its end
 abbrev pub is_plain : Conversion → Bool
@@ -52,14 +52,10 @@ zeros_are_a_value (N.DateTime2 sc) n v s h =
     exactly (ZerosAre (N.DateTime2 sc)) n _ h (below_eight (λ sc. are_read (N.DateTime2 sc) (N.time_length sc + 3)) refl _ (le_true _ 7 v))
 zeros_are_a_value (N.DateTimeOffset sc) n v s h =
     exactly (ZerosAre (N.DateTimeOffset sc)) n _ h (below_eight (λ sc. are_read (N.DateTimeOffset sc) (N.time_length sc + 5)) refl _ (le_true _ 7 v))
-zeros_are_a_value kind n v s h = grind (arith, exactly, one_of_four)
+zeros_are_a_value kind n v s h = grind (arith, exactly)
 
 zeros_next : (n : ℕ) → 0 ∷ zeros (n + 1) ≡ zeros (suc n + 1)
 zeros_next = grind arith
-
--- a sum that stays below that of a known total may still become it
-within : (total : Option ℕ) (m k : ℕ) → N.is_total total m ≡ true → k ≤ m → N.within_total total k ≡ true
-within = grind arith
 
 module _ (column : ℕ) where
   -- the rest of a short value
@@ -95,7 +91,7 @@ module _ (column : ℕ) where
   chunks_end {c} {total} (suc n) {content} plain all even =
       let same : length content + suc n ≡ length (content ++ 0 ∷ []) + n = grind (arith, N.length-append) in
       let one : Spelt (cell column) (ChunkLength c total content) (1 ∷ 0 ∷ 0 ∷ 0 ∷ []) (ChunkData c total 0 content) =
-      spelt_one (omega arith) refl (grind (arith, within)) refl in
+      spelt_one (omega arith) refl (grind arith) refl in
       let more = chunks_end n plain (rw same at all) (rw same at even) in
       (more.0, spelt_both (spelt_both one (chunk_ends 0 plain)) more.1)
 

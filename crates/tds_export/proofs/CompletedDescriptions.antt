@@ -86,12 +86,7 @@ module _ (room : ℕ) where
   -- after a column
   column_ends : (bytes : List ℕ) (count : ℕ) (cols : List Column) (c : Column) (n : ℕ) → count ≡ length cols + (1 + n) → length bytes + 8 * n ≤ room
       → Ends room (N.with_column bytes count cols c) (int_columns n)
-  column_ends bytes count cols c zero e fits = (
-    bytes,
-    cols ++ c ∷ [],
-    rw (N.choose_true (length cols + 1 == count) (N.WholeDescription bytes (cols ++ c ∷ [])) (InColumn bytes count (cols ++ c ∷ []) ColumnHead)
-        (grind arith)) (N.Spelt-none _ _),
-  )
+  column_ends bytes count cols c zero e fits = (bytes, cols ++ c ∷ [], grind arith)
   column_ends bytes count cols c (suc n) e fits =
       let to : N.with_column bytes count cols c ≡ InColumn bytes count (cols ++ c ∷ []) ColumnHead = grind (arith, N.choose_false, N.ne_eqb) in
       rw to (ints_end _ _ _ n (grind (arith, N.length-append)) (omega arith))

@@ -32,16 +32,13 @@ OpenReached room at = ⊤
 AreBytes-zeros : (n : ℕ) → AreBytes (zeros n)
 AreBytes-zeros = grind (arith, AreBytes-replicate)
 
-AreBytes-int : AreBytes N.int_column
-AreBytes-int = grind arith
-
 AreBytes-ints : (n : ℕ) → AreBytes (N.int_columns n)
 AreBytes-ints zero = tt
-AreBytes-ints (suc n) = AreBytes-append N.int_column _ AreBytes-int (AreBytes-ints n)
+AreBytes-ints (suc n) = grind (arith, (AreBytes-ints n))
 
 AreBytes-zero_chunks : (n : ℕ) → AreBytes (N.zero_chunks n)
 AreBytes-zero_chunks zero = tt
-AreBytes-zero_chunks (suc n) = (omega arith, AreBytes-append (zeros 4) _ (AreBytes-zeros 4) (AreBytes-zero_chunks n))
+AreBytes-zero_chunks (suc n) = grind (arith, (AreBytes-zero_chunks n))
 
 AreBytes-cell : (p : N.CellPart) → AreBytes (N.rest_of_cell p)
 AreBytes-cell p = grind (arith, AreBytes-append, AreBytes-zero_chunks, AreBytes-zeros)
@@ -49,19 +46,10 @@ AreBytes-cell p = grind (arith, AreBytes-append, AreBytes-zero_chunks, AreBytes-
 AreBytes-cells : (ks : List (Column × N.Bool)) → AreBytes (N.rest_of_cells ks)
 AreBytes-cells [] = tt
 AreBytes-cells ((k, true) ∷ ks) = AreBytes-cells ks
-AreBytes-cells ((k, false) ∷ ks) = AreBytes-append _ _ (grind (arith, AreBytes-cell)) (AreBytes-cells ks)
-
-AreBytes-head : AreBytes N.rest_of_return_head
-AreBytes-head = grind arith
+AreBytes-cells ((k, false) ∷ ks) = grind (arith, (AreBytes-cells ks))
 
 AreBytes-return : (p : N.ReturnPart) → ReturnReached p → AreBytes (N.rest_of_return p)
-AreBytes-return N.ReturnOrdinal h = grind (arith, AreBytes-append, AreBytes-zeros, AreBytes-head)
-AreBytes-return N.ReturnNameCount h = grind (arith, AreBytes-append, AreBytes-zeros, AreBytes-head)
-AreBytes-return (N.ReturnName n) h = AreBytes-append _ _ (AreBytes-zeros n) AreBytes-head
-AreBytes-return (N.ReturnHead name) h = AreBytes-head
-AreBytes-return (N.ReturnInfo name byte) (n, known, some) = AreBytes-append _ _ (least_type known).bytes (grind arith)
-AreBytes-return (N.InReturnCell name kind part) h = AreBytes-cell part
-AreBytes-return (N.WholeReturn r) h = tt
+AreBytes-return = search (arith, AreBytes-append, least_type, AreBytes-zeros, AreBytes-cell)
 
 -- the columns that are described are some, of valid kinds
 abbrev CurrentReached : N.Option (List Column) → Type 0
@@ -77,15 +65,12 @@ zeros_hold : (n : ℕ) → 14 ≤ n → N.holds_notice (zeros n) ≡ true
 zeros_hold = grind (arith, N.common_steps, N.test_le, N.test_lt)
 
 module _ (room : ℕ) where
-  bare_reached : (tokens : List Token) (t : Token) → is_bare t ≡ true → CurrentReached (described_after None tokens) → PartReached room (N.with_token tokens t)
-  bare_reached = grind (arith, described_after-append, bare)
-
   -- Each element keeps what is known.
   open_keeps : {tokens : List Token} (at : Open) {e : List ℕ} → AreBytes e → CurrentReached (described_after None tokens) → OpenReached room at
       → N.IsNext (response Windows1252 room) (part_at tokens at) e → PartReached room (N.part_add Windows1252 tokens at e)
-  open_keeps (N.TokenLength b) are h o n = grind (arith, bare_body, bare_reached, N.choose, N.eq_false, N.nat_tests)
+  open_keeps (N.TokenLength b) are h o n = grind (arith, bare, bare_body, described_after-append, N.choose, N.eq_false, N.nat_tests)
   open_keeps at are h o n =
-      grind (arith, marked_valid, next_reached, described_after-append, described_keeps, cell_keeps, bare_reached, return_keeps, bare_body, bare_fixed)
+      grind (arith, marked_valid, next_reached, described_after-append, described_keeps, cell_keeps, bare, return_keeps, bare_body, bare_fixed)
 
   part_reached : {bytes : List ℕ} {p : Part} → AreBytes bytes → Spelt (response Windows1252 room) N.response_start bytes p → PartReached room p
   part_reached {p} are h = bytes_induct (λ q b. PartReached room q) (grind (arith, open_keeps)) _ (tt, tt) _ p are h
@@ -100,15 +85,15 @@ module _ (room : ℕ) where
   token_ends ten tokens (N.Describing d) (begun, r) =
       let all = described_ends _ ten d begun r in
       let read = spelt_inside (description_agrees Windows1252 room tokens) all.2 in
-      (tokens ++ N.Metadata all.0 all.1 ∷ [], grind arith)
+      grind arith
   token_ends ten tokens (InRow part) (begun, r) =
       let all = row_ends _ r in
       let read = spelt_inside (row_agrees Windows1252 room tokens) all.1 in
-      (tokens ++ N.Row all.0 ∷ [], grind arith)
+      grind arith
   token_ends ten tokens (N.InReturn part) (begun, r) =
       let all = return_ends _ r in
       let read = spelt_inside (return_agrees Windows1252 room tokens) all.1 in
-      (tokens ++ N.Returned all.0 ∷ [], grind arith)
+      grind arith
   token_ends ten tokens (N.TokenLength (N.APassed passed)) o =
       (tokens ++ N.PassedOver passed [] ∷ [], body_is_read Windows1252 _ (zeros 2) _ refl refl refl refl)
   token_ends ten tokens (N.TokenLength b) o = (
@@ -133,8 +118,7 @@ can_be_completed room part bytes ten are h =
     let r = part_reached _ are h in
     let end = token_ends _ ten _ _ r.1 in (
       end.0 ++ Done false ∷ [],
-      response_is_spelt _ _ (AreBytes-append _ _ are
-          (grind (arith, AreBytes-append, least_type, AreBytes-int, AreBytes-ints, AreBytes-return, AreBytes-cell, AreBytes-cells, AreBytes-zeros)))
+      response_is_spelt _ _ (grind (arith, AreBytes-append, least_type, AreBytes-ints, AreBytes-return, AreBytes-cell, AreBytes-cells, AreBytes-zeros))
           (is_final-snoc end.0 (Done false))
           (spelt_both h (spelt_both end.1 (done_ends _ _))),
     )

@@ -2,7 +2,7 @@
 use Rattle.tds_export.proofs as N
 use N.{Conversion, HexDigits, List, [], arith, choose, emit, length, true, ℕ, ◌*◌, ◌++◌, ◌+◌, ◌-◌, ◌<◌, ◌==◌, ◌^◌, ◌∷◌, ◌≡◌, ◌≤◌, ⊤}
 use N.Words.{utf16_chars}
-use N.SomeBytes.{byte_below, little_below, one_of_four}
+use N.SomeBytes.{byte_below, little_below}
 use Rattle.tds_text.specs.Utf16 as utf16
 use Rattle.tds_values.specs.declared.kind.Kind.TheVariants as kinds
 
@@ -84,28 +84,17 @@ long_more c a h b = omega (arith, text_more c a h b, N.length-append (N.conversi
 integer_fits : (n : ℕ) (xs : List ℕ) → N.AreBytes xs → N.unsigned_abs (N.integer_of n xs) < 2 ^ 64
 integer_fits = grind (arith, byte_below, choose)
 
--- an amount of money fits
-money_fits : (n : ℕ) (xs : List ℕ) → N.unsigned_abs (N.money_of n xs) < 2 ^ 64
-money_fits = grind arith
-
 -- the numbers of a value, if there is one, fit
 abbrev AllFit : N.Option N.ScalarValue → Type 0
 AllFit N.None = ⊤
 AllFit (N.Some v) = N.FitsWidths v
 
--- a date and time has no wide number
-datetime_fits : (n : ℕ) (e : List ℕ) → N.FitsWidths (N.datetime_of n e)
-datetime_fits = grind arith
-
 -- the bytes of a kind spell numbers that fit
 values_fit : (kind : N.Kind) (e : List ℕ) → N.AreBytes e → N.is_length_allowed kind (length e) ≡ true → AllFit (N.value_of kind e)
 values_fit kinds.Int1 e h k = integer_fits 1 e h
-values_fit kinds.Int2 e h k = integer_fits 2 e h
-values_fit kinds.Int4 e h k = integer_fits 4 e h
-values_fit kinds.Int8 e h k = integer_fits 8 e h
 values_fit (kinds.IntN n) e h k = integer_fits n e h
-values_fit (kinds.Decimal n precision scale) e h k = grind (arith, little_below, one_of_four, N.and_parts)
-values_fit kind e h k = grind (arith, money_fits, datetime_fits)
+values_fit (kinds.Decimal n precision scale) e h k = grind (arith, little_below, N.and_parts)
+values_fit kind e h k = grind arith
 
 -- the text of a value that is read
 abbrev pub ReadShort : N.Result N.ScalarValue N.ValueFault → Type 0

@@ -54,7 +54,7 @@ begins : (done left : List Column) → (more : List ℕ) × (names_text done lef
 begins done [] = grind (arith, N.append-nil)
 begins done (c ∷ cs) =
     let grows = N.joined_more (map name_field done) (map name_field (c ∷ cs)) in
-    (grows.0 ++ N.line_end, rw (N.map-append name_field done (c ∷ cs), ← grows.1) (grind (arith, N.append_assoc)))
+    (grows.0 ++ N.line_end, grind (arith, N.map-append, grows, N.append_assoc))
 
 -- The names of the columns but these last ones were put.
 pub record NamesPut {W : Type 0} (contents : W → Option (List ℕ)) (columns left : List Column) (index : ℕ) (before after : Sink W) : Type 0 where

@@ -44,7 +44,7 @@ module _ (run : Run) {q : N.PayloadView} {part : Part} {bytes : List ℕ} (side 
         part = part;
         stands = grind arith;
         leads = rw payload (N.longest_refused g _ _ _ _ _ spelt refused);
-        first = inl (rw (rest_of bytes payload) refused, grind (arith, N.length-append, last));
+        first = grind (arith, rest_of, refused, N.length-append);
         written = text;
         kept = kept b.packets;
       }
@@ -77,10 +77,7 @@ module _ (run : Run) {q : N.PayloadView} {part : Part} {bytes : List ℕ} (side 
           before = x.each;
           within = x.within;
           taken_is = N.refl;
-          first = elim x.cause [
-            | inl c ↦ grind arith
-            | inr c ↦ inr c.0
-          ];
+          first = grind arith;
           leads = rw x.payload_is (N.longest_cut (grammar run) _ bytes cut part spelt short);
           none_refused = grind (arith, rest_of);
           written = text;

@@ -18,7 +18,7 @@ module _ {S : Type 0} {g : Grammar S Fault} {s : S} {a b : N.PayloadView} {place
   -- fewer bytes than it has came
   pub part_cut : {own : Stop} {part : List ℕ} → g.size s ≡ n → g.end_fault s ≡ Some N.MessageEnded → length part < n → N.Ends a b part own
       → stop ≡ N.began_at place own → N.StopsReading g s a b place s stop
-  part_cut {own} size end fewer ends is = N.cut_at_once g s a b _ _ _ _ (rw size fewer) ends (grind arith)
+  part_cut = search arith
 
   -- the slice that it is to fill isn't filled
   pub fill_cut : {to : List ℕ} → g.size s ≡ n → g.end_fault s ≡ Some N.MessageEnded → length to ≡ n
@@ -165,14 +165,11 @@ value_begins : {name : List ℕ} {o : Option Kind} {kind : Kind} {b front : List
     → N.SpellsReturnName name front → length ignored ≡ 7 → N.IsTypeInfo kind info → ReturnMeans (N.with_return_kind name o) b
 value_begins = grind (arith, N.append-nil, N.start_means, with_value_means)
 
-pub accepted : (byte : ℕ) (o : Option ℕ) → N.type_fault N.return_column byte o ≡ None → (n : ℕ) × (o ≡ Some n)
-accepted = grind arith
-
 type_begins : (name : List ℕ) (byte n : ℕ) (b front ignored : List ℕ) → b ≡ front ++ (ignored ++ byte ∷ []) → N.SpellsReturnName name front
     → length ignored ≡ 7 → N.rest_length byte ≡ Some n → ReturnMeans (N.with_return_type name byte n) b
 type_begins name byte n b front ignored spelt named seven known = N.choose (λ p. ReturnMeans p b) _ _ _ (λ z.
     let k = N.bare_type _ (rw (N.eq_true n 0 z) at known) in
-    value_begins _ _ k.1 spelt named seven k.1) (λ z. (front, ignored, spelt, named, seven, n, known))
+    value_begins _ _ k.1 spelt named seven k.1) (λ z. grind arith)
 
 -- each element keeps the meaning
 pub return_step : (p : N.ReturnPart) (b e : List ℕ) → N.AreBytes e → ReturnMeans p b → N.IsNext return_value p e → ReturnMeans (N.return_add p e) (b ++ e)
@@ -181,7 +178,7 @@ return_step N.ReturnNameCount b e bytes h n = grind (arith, N.choose, N.eq_true,
 return_step (N.ReturnName m) b e bytes h n = grind (arith, append_assoc)
 return_step (N.ReturnHead name) b e bytes h n =
     let s = N.split_last 7 e n.whole in
-    grind (arith, N.split_last, N.get_or-append_seam, accepted, type_begins)
+    grind (arith, N.split_last, N.get_or-append_seam, type_begins)
 return_step (N.ReturnInfo name byte) b e bytes h n =
     let k = N.is_some_value _ (grind arith) in
     value_begins _ _ k.1 (ap (λ v. v ++ e) h.2 ∙ append_assoc h.0 (h.1 ++ byte ∷ []) e ∙ ap (λ v. h.0 ++ v) (append_assoc h.1 (byte ∷ []) e)) h.3 h.4 k.1
@@ -203,7 +200,6 @@ return_step (N.WholeReturn r) b e bytes h n = grind arith
 
 pub described_after-append : (before : Option (List Column)) (a b : List Token) → described_after before (a ++ b) ≡ described_after (described_after before a) b
 described_after-append before [] b = refl
-described_after-append before (N.Metadata bytes columns ∷ a) b = described_after-append _ a b
 described_after-append before (N.NoMetadata ∷ a) b = described_after-append _ a b
 described_after-append before (t ∷ a) b = described_after-append _ a b
 

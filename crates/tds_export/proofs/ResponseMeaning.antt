@@ -9,14 +9,10 @@ use N.SomeBytes.{bytes_induct}
 piece : (body : List ℕ) (n k m : ℕ) {r : List ℕ} → n + k ≡ m → drop m body ≡ r → drop n body ≡ take k (drop n body) ++ r
 piece body n k m e is = cc (N.take-append-drop k (drop n body), N.drop-drop k n body)
 
--- the byte after the first n, and those after it
-byte_at : (body : List ℕ) {n : ℕ} {r : List ℕ} → n < length body → drop (n + 1) body ≡ r → drop n body ≡ N.slice_index body n ∷ r
-byte_at = grind (arith, N.add-one, N.drop-cons)
-
 -- a byte that counts units, these, and the bytes after them
 counted_at : (body : List ℕ) {n m : ℕ} {r : List ℕ} → n < length body → (n + 1) + 2 * N.slice_index body n ≡ m → drop m body ≡ r
     → drop n body ≡ N.slice_index body n ∷ (take (2 * N.slice_index body n) (drop (n + 1) body) ++ r)
-counted_at = grind (arith, byte_at, piece)
+counted_at = grind (arith, N.add-one, N.drop-cons, piece)
 
 long : (body : List ℕ) (n k : ℕ) → n + k ≤ length body → length (take k (drop n body)) ≡ k
 long = grind (arith, N.length-drop, N.length-take-le)
@@ -49,16 +45,13 @@ notice_spelt body h =
       procedure = take (2 * p) (drop (pa + 1) body);
       last = take 4 (drop la body);
       ignored = drop (la + 4) body;
-      spelt = regroup _ _ _ _ _ _ _ _ _ (grind (arith, N.take-append-drop, byte_at)) s_is p_is;
+      spelt = regroup _ _ _ _ _ _ _ _ _ (grind (arith, N.take-append-drop, N.add-one, N.drop-cons)) s_is p_is;
       number = grind (arith, N.length-take-le);
       message = (long body 6 2 (omega arith), long body 8 (2 * u) (omega arith));
       servers = omega arith;
       procedures = omega arith;
       line = (long body la 4 t.2, refl);
     }
-
-held : (b : Bool) → ((if N.not b then Some N.BadNotice else None) ≡ None) → b ≡ true
-held b h = grind arith
 
 module _ (charset : N.Charset) (room : ℕ) where
   one_more_token : (current : Option (List Column)) (ts : List Token) (a : List ℕ) (t : Token) (e : List ℕ) → SpellsTokens charset room current ts a
@@ -128,7 +121,7 @@ module _ (charset : N.Charset) (room : ℕ) where
 
   with_return_means : {tokens : List Token} (part : N.ReturnPart) {b : List ℕ} → AfterLead tokens N.AReturn (ReturnMeans part) b
       → PartMeans (N.with_return tokens part) b
-  with_return_means (N.WholeReturn r) h = token_means _ h (h.rest, (h.first, refl, h.begins), h.follows)
+  with_return_means (N.WholeReturn r) h = token_means _ h (grind arith)
   with_return_means part h = h
 
   row_begins : (tokens : List Token) (b : List ℕ) (x : ℕ) (current : Option (List Column)) → described_after None tokens ≡ current
@@ -149,7 +142,7 @@ module _ (charset : N.Charset) (room : ℕ) where
       spelt : (k : N.Bodied) → IsFirst (N.WithBody k) h.first → IsFree k body
           → N.SpellsToken charset room (described_after None tokens) (N.bodied k body) (h.first ∷ h.rest)
       spelt (N.APassed passed) begins f = grind (arith, begins)
-      spelt b begins f = (h.rest, body, grind arith, h.follows, notice_spelt _ (held _ f))
+      spelt b begins f = (h.rest, body, grind arith, h.follows, notice_spelt _ (grind arith))
 
   -- each element keeps the meaning
   part_step : {tokens : List Token} (at : N.Open) (b : List ℕ) {e : List ℕ} → N.AreBytes e → OpenMeans tokens at b

@@ -25,9 +25,6 @@ AreBytes-replicate (suc n) x h = (h, AreBytes-replicate n x h)
 pub exactly : (P : ℕ → Type 0) (n m : ℕ) → (n == m) ≡ true → P m → P n
 exactly = grind arith
 
-pub one_of_four : (P : ℕ → Type 0) (a b c d n : ℕ) → (n == a || n == b || n == c || n == d) ≡ true → P a → P b → P c → P d → P n
-one_of_four = grind arith
-
 -- what each element of bytes keeps holds at their end
 pub bytes_induct : {S : Type 0} {g : N.Grammar S N.Fault} (P : S → List ℕ → Type 0)
     → ((s : S) (b e : List ℕ) → P s b → AreBytes e → N.IsNext g s e → P (g.add s e) (b ++ e)) → (s : S) → P s [] → (bytes : List ℕ) (t : S)

@@ -133,14 +133,6 @@ with_row_grown : (tokens : List Token) (part : N.RowPart) → grown (N.with_row 
 with_row_grown = grind (arith, length-append, N.append-nil, begun_after, text_after-snoc)
 
 module _ (charset : N.Charset) (room : ℕ) where
-  -- a row that begins has at most the end of its line
-  row_starts : (columns : List Column) → row_length (N.row_start N.PlainRow charset columns) ≤ 2
-  row_starts = grind (arith, next_length, none_null)
-
-  -- what has just begun adds nothing
-  fresh_grown : (tokens : List Token) (n : ℕ) (at : Open) → IsFresh at → grown (part_at tokens at) ≤ length (text tokens) + 64 * n
-  fresh_grown = grind (arith, length-append, part_at)
-
   -- each element pays for what it adds
   grown_more : (p : Part) (e : List ℕ) → AreBytes e → IsNext (response charset room) p e → grown ((response charset room).add p e) ≤ grown p + 64 * length e
   grown_more = grind (
@@ -150,7 +142,6 @@ module _ (charset : N.Charset) (room : ℕ) where
     bare,
     choose,
     described_more,
-    fresh_grown,
     lead_cases,
     part_at,
     cell_more,
@@ -159,7 +150,7 @@ module _ (charset : N.Charset) (room : ℕ) where
     N.map-append,
     last_length,
     one_more_length,
-    row_starts,
+    none_null,
     with_row_grown,
     begun_after,
     N.append-nil,

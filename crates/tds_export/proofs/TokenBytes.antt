@@ -3,7 +3,7 @@ use Rattle.tds_export.proofs as N
 use N.{Bool, Cell, IsNext, List, None, Row, RowsPart, Some, Token, Tracks, [], ap, append_assoc, arith, before, counted, if◌then◌else◌, length, map, refl}
 use N.{response, rows, sym, text, true, with_row, ℕ, ◌++◌, ◌+◌, ◌==◌, ◌∙◌, ◌∷◌, ◌≡◌, Charset, SinkView, Part, PayloadView, Takes, after_tokens, between, inl}
 use N.{inr, ◌-◌, ◌<◌, ◌^◌, ◌≤◌, columns_of, Stop}
-use N.TokenSteps.{OpenTexts, holds-snoc, quietly, row_stops, row_text, stops_further, same_text, start_text, stops_quietly, streams_both}
+use N.TokenSteps.{OpenTexts, holds-snoc, quietly, row_stops, stops_further, same_text, start_text, stops_quietly, streams_both}
 use N.ResponseLaws.{described_after-append, spelt_both}
 use N.TokenLaws.{text_after-snoc, tracks_row, with_rows}
 
@@ -23,7 +23,7 @@ module _ (which : N.RowToken) (charset : Charset) (room : ℕ) (all : List N.Col
   in_rows p = with_row (tokens ++ map Row p.before) p.at
 
   in_rows_text : (p : RowsPart) → N.text_so_far (in_rows p) ≡ text tokens ++ N.rows_so_far p
-  in_rows_text = grind (arith, row_text, rows_text, append_assoc, N.lines)
+  in_rows_text = grind (arith, N.append-nil, text_after-snoc, rows_text, append_assoc, N.lines)
 
   module _ (known : N.described_after None tokens ≡ Some all) where
     -- an element leads from one of these to another

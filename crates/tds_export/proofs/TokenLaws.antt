@@ -68,7 +68,6 @@ status_after-append before (t ∷ a) b = status_after-append _ a b
 
 pub encoded_after-append : (before : List ℕ) (a b : List Token) → N.encoded_after before (a ++ b) ≡ N.encoded_after (N.encoded_after before a) b
 encoded_after-append before [] b = refl
-encoded_after-append before (Metadata bytes columns ∷ a) b = encoded_after-append _ a b
 encoded_after-append before (N.NoMetadata ∷ a) b = encoded_after-append _ a b
 encoded_after-append before (t ∷ a) b = encoded_after-append _ a b
 

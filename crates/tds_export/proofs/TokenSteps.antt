@@ -76,25 +76,28 @@ module _ {tokens : List Token} {s : Progress} {u : View} (begun : OpenTexts toke
       → (x : N.ReadsTokens g from tokens a b place place' h k t area') × N.IsNoted u.notice (tokens ++ x.more)
   quietly same x = (x, cc (same_first _ _ (sym (ap (λ (r : Report). r.errors) x.tracks.report) ∙ same ∙ ap (λ (r : Report). r.errors) begun.tracks.report)))
 
-  -- a token that has no text and describes nothing was read
-  abbrev pub bare_reads : {g : Grammar Part Fault} {from : Part} {progress : Progress} {a b : PayloadView} {place place' : ℕ} (t : Token)
-      (r : N.Reads g from a b (N.with_token tokens t)) → place' ≡ place + length r.bytes → text_so_far from ≡ text tokens ++ [] → is_bare t ≡ true
-      → N.Tracks progress (tokens ++ t ∷ []) → N.ReadsTokens g from tokens a b place place' u.held u.held progress u.area
-  bare_reads {from} t r at none is tracks =
-      let so = bare is in
-      let same = text_after-snoc false tokens t ∙ ap (λ l. text tokens ++ l) (so.text (begun_after false tokens)) ∙ append-nil (text tokens) in
-      record {
-        more = t ∷ [];
-        streams = record {
-          bytes = r.bytes;
-          spelt = r.spelt;
-          takes = r.takes;
-          puts = same_text from (N.with_token tokens t) u.held (none ∙ ap (λ l. l ++ []) (sym same)) begun.delivered;
-        };
-        place_is = at;
-        tracks = tracks;
-        holds = holds-snoc t (so.encoded (N.encoded_after [] tokens)) begun.holds;
-      }
+  module _ {g : Grammar Part Fault} {from : Part} {progress : Progress} {a b : PayloadView} {place place' : ℕ} (t : Token)
+      (r : N.Reads g from a b (N.with_token tokens t)) (at : place' ≡ place + length r.bytes) where
+    -- a token was read, and its text put
+    abbrev token_reads : {after : SinkView} {area : Space} → N.PutsText text_so_far from (N.with_token tokens t) u.held after
+        → N.Tracks progress (tokens ++ t ∷ []) → IsHolding area (N.with_token tokens t)
+        → N.ReadsTokens g from tokens a b place place' u.held after progress area
+    token_reads puts tracks holds = record {
+      more = t ∷ [];
+      streams = record { bytes = r.bytes; spelt = r.spelt; takes = r.takes; puts = puts };
+      place_is = at;
+      tracks = tracks;
+      holds = holds;
+    }
+
+    -- a token that has no text and describes nothing was read
+    abbrev pub bare_reads : text_so_far from ≡ text tokens ++ [] → is_bare t ≡ true → N.Tracks progress (tokens ++ t ∷ [])
+        → N.ReadsTokens g from tokens a b place place' u.held u.held progress u.area
+    bare_reads none is tracks =
+        let so = bare is in
+        let same = text_after-snoc false tokens t ∙ ap (λ l. text tokens ++ l) (so.text (begun_after false tokens)) ∙ append-nil (text tokens) in
+        token_reads (same_text from (N.with_token tokens t) u.held (none ∙ ap (λ l. l ++ []) (sym same)) begun.delivered) tracks
+        (holds-snoc t (so.encoded (N.encoded_after [] tokens)) begun.holds)
 
 module _ (charset : Charset) {tokens : List Token} {s : Progress} {u : View} (begun : OpenTexts tokens s u) (b : PayloadView) {place : ℕ} where
   -- a token with fields of a fixed length was read
@@ -112,10 +115,6 @@ pub start_text : (charset : Charset) (columns : List Column) (tokens : List Toke
 start_text charset [] tokens some = grind arith
 start_text charset (c ∷ cs) tokens some = simp N.start_quiet
 
--- a row's text so far in its response
-pub row_text : (tokens : List Token) (part : N.RowPart) → text_so_far (with_row tokens part) ≡ text tokens ++ N.row_so_far part
-row_text = grind (arith, append-nil, text_after-snoc)
-
 -- and while a row is read
 row_holds : {area : Space} {tokens : List Token} (part : N.RowPart) → IsHolding area (after_tokens tokens) → IsHolding area (with_row tokens part)
 row_holds (N.WholeRow cells) h = holds-snoc _ refl h
@@ -129,12 +128,13 @@ module _ (charset : Charset) (room : ℕ) {place : ℕ} {start : N.RowPart} {are
       → N.StepStops (N.response charset room) (with_row tokens start) a b place before after area failed stop
   row_stops holds x =
       let agrees = row_agrees _ _ _ in
+      let text_is : (p : N.RowPart) → text tokens ++ N.row_so_far p ≡ text_so_far (with_row tokens p) = grind (arith, append-nil, text_after-snoc) in
       elim x.cause [
         | inl y ↦ inl (
           record {
             at = with_row tokens x.at;
             stops = stop_inside agrees y.0;
-            puts = N.puts_inside _ _ _ (inside agrees) N.row_so_far text_so_far (text tokens) (λ p. sym (row_text tokens p)) start x.at _ _ y.1;
+            puts = N.puts_inside _ _ _ (inside agrees) N.row_so_far text_so_far (text tokens) text_is start x.at _ _ y.1;
             holds = grind (arith, row_holds);
           },
           y.2,
@@ -142,7 +142,7 @@ module _ (charset : Charset) (room : ℕ) {place : ℕ} {start : N.RowPart} {are
         | inr y ↦ inr (
           record {
             at = with_row tokens x.at;
-            breaks = N.breaks_inside _ _ _ (inside agrees) N.row_so_far text_so_far (text tokens) (λ p. sym (row_text tokens p)) start a b _ _ x.at stop y.0;
+            breaks = N.breaks_inside _ _ _ (inside agrees) N.row_so_far text_so_far (text tokens) text_is start a b _ _ x.at stop y.0;
             holds = rw ((inside agrees).add x.at y.0.element (grind arith)) (row_holds _ holds);
           },
           y.1,
@@ -150,10 +150,6 @@ module _ (charset : Charset) (room : ℕ) {place : ℕ} {start : N.RowPart} {are
       ]
 
 -- ---- COLMETADATA
-
-metadata_holds : {area old_area : Space} {tokens : List Token} (columns : List Column) (peak : area.peak ≤ N.max old_area.peak (length area.bytes + 0))
-    → IsHolding old_area (after_tokens tokens) → IsHolding area (after_tokens (tokens ++ N.Metadata area.bytes columns ∷ []))
-metadata_holds = grind (arith, encoded_after-append, greatest_span-append)
 
 some_bytes : (room : ℕ) (area bytes : List ℕ) (columns : List Column) → N.Spelt (N.description room) N.BeforeCount bytes (N.WholeDescription area columns)
     → 0 < length bytes
@@ -164,20 +160,9 @@ module _ (charset : Charset) {tokens : List Token} {s : Progress} {u : View} {ar
   -- a Count of no metadata was read
   pub none_reads : {place : ℕ} → N.Describes u.area.room N.BeforeCount u.seen b u.place place u.area.peak area N.NoDescription
       → N.ReadsNext charset (in_metadata tokens) tokens u (record u { seen = b; place = place; area = area }) (record s { described = false })
-  none_reads x =
-      let r = read_inside (description_agrees _ _ _) x.reads in
-      quietly begun refl (record {
-        more = N.NoMetadata ∷ [];
-        streams = record {
-          bytes = r.bytes;
-          spelt = r.spelt;
-          takes = r.takes;
-          puts = same_text (in_metadata tokens) (N.with_token tokens N.NoMetadata) _ (simp (text_after-snoc, append-nil)) begun.delivered;
-        };
-        place_is = x.place_is;
-        tracks = grind (arith, tracked);
-        holds = grind (arith, encoded_after-append, greatest_span-append);
-      })
+  none_reads x = quietly begun refl (token_reads begun N.NoMetadata (read_inside (description_agrees _ _ _) x.reads) x.place_is
+      (same_text (in_metadata tokens) (N.with_token tokens N.NoMetadata) _ (simp (text_after-snoc, append-nil)) begun.delivered)
+      (grind (arith, tracked)) (grind (arith, encoded_after-append, greatest_span-append)))
 
   -- the description is cut or refused
   pub metadata_stops : {stop : Stop} → N.StopsDescribing u.area.room N.BeforeCount u.seen b u.place u.area.peak area stop
@@ -190,20 +175,9 @@ module _ (charset : Charset) {tokens : List Token} {s : Progress} {u : View} {ar
     pub metadata_reads : N.Puts u.held after (between (N.nat_lt 0 s.report.sets) ++ N.header_line (N.columns_of area.bytes))
         → N.ReadsNext charset (in_metadata tokens) tokens u (record u { seen = b; place = place; held = after; area = area })
         (record s { report = record s.report { sets = s.report.sets + 1 }; described = true })
-    metadata_reads puts =
-        let r = read_inside (description_agrees _ _ _) x.reads in
-        quietly begun refl (record {
-          more = N.Metadata area.bytes columns ∷ [];
-          streams = record {
-            bytes = r.bytes;
-            spelt = r.spelt;
-            takes = r.takes;
-            puts = grind (arith, between, append-nil, begun_after, begun_where_sets, text_after-snoc);
-          };
-          place_is = x.place_is;
-          tracks = grind (arith, tracked, shown);
-          holds = metadata_holds _ x.bound begun.holds;
-        })
+    metadata_reads puts = quietly begun refl (token_reads begun (N.Metadata area.bytes columns) (read_inside (description_agrees _ _ _) x.reads) x.place_is
+        (grind (arith, between, append-nil, begun_after, begun_where_sets, text_after-snoc)) (grind (arith, tracked, shown))
+        (grind (arith, encoded_after-append, greatest_span-append)))
 
     -- the description was read, and the writer failed at its header
     pub metadata_breaks : {stop : Stop} → length u.held.waiting < 4096 → N.IsBetween b
@@ -230,7 +204,7 @@ module _ (charset : Charset) {tokens : List Token} {s : Progress} {u : View} {ar
             text_is = grind (arith, append-nil, begun_after, begun_where_sets, text_after-snoc);
             breaks = rw shown at breaks;
           };
-          holds = rw l.to_is (metadata_holds _ x.bound begun.holds);
+          holds = rw l.to_is (grind (arith, encoded_after-append, greatest_span-append));
         }
 
 -- A token has begun where the run goes on.

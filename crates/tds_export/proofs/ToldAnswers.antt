@@ -100,7 +100,7 @@ broken {run} {q} {k} {at} side writer x holds gained all =
     let payload_is = b.payload_is ∙ N.append_assoc be x.ahead (q.future []).bytes in
     let longest = N.some_longest g _ _ in
     let beyond = text_along _ _ (further g _ to longest.1 be more longest.0 spelt
-    (subst (λ v. N.Longest g response_start v longest.0 longest.1) payload_is longest.2)).1 in
+    (grind (arith, longest))).1 in
     let last = N.in_last _ _ f _ _ _ q _ _ side.left x.takes b (grind (arith, length-append)) in
     let early = N.some_longest g _ _ in
     let fewer : early.0 < length be = omega arith in
@@ -141,8 +141,8 @@ broken {run} {q} {k} {at} side writer x holds gained all =
         written_is = refl;
         begins = text_more;
         needed = inr (last.before, last.last, early.0, early.1, last.split, early.2, chunks, omega arith);
-        failed = subst (N.Rose run.given.before.writer.failures) (sym (cc) ∙ writer.failures) (N.rose _);
-        kept = (length be, to, comes, kept_at run.given.after.areas.description to.tokens _ (drop (length be) (payload_of b.packets)) holds.bytes);
+        failed = grind (arith, N.rose);
+        kept = grind (arith, kept_at);
       },
       bounded side.bytes reached holds.peak,
     )
@@ -234,7 +234,7 @@ module _ {given : ExportInput} {input left : List ℕ} {q : PayloadView} {stop :
       let w : IsWriter given k = grind arith in
       let d = sends _ _ _ w (whole_puts y.whole) y.fails.1 in
       let whole = whole_message_of {run = run_of given input left d.gained} refl (grind arith) y.whole in
-      rw (same broke) (in_text w d.has d.delivered y.fails.2 (failed_at_end whole (simp (d.all, append-nil)) (grind (arith, N.rose)), whole.most))
+      rw (same broke) (in_text w d.has d.delivered y.fails.2 (grind (arith, failed_at_end, append-nil, N.rose)))
 
 -- what a run that stopped read
 stops_read : {g : N.Grammar Part N.Fault} {a q : PayloadView} {h k : SinkView} {area : N.Space} {failed : Bool} {stop : Stop}
@@ -274,4 +274,4 @@ report_tells {given} {report} x = λ input are e. let y = x.completes in
       kept = whole.kept;
       no_failure = no_failure given report x;
     } in
-    (left.0, d.gained, cc, d.has, record { outcome = outcome; bounded = whole.most }, outcome_succeeds (Ok report) outcome)
+    (left.0, d.gained, cc, d.has, grind arith, outcome_succeeds (Ok report) outcome)

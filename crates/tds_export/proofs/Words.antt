@@ -1,9 +1,8 @@
 -- The words that the proofs of this crate share.
 pub use Rattle.std.proofs.Common.{◌≡◌, ◌∙◌, inl, inr, ℕ, ◌+◌, ◌≤◌, List, [], ◌∷◌, ◌++◌, length, take, drop, refl, sym, ap, subst, arith, append_assoc}
-pub use Rattle.std.proofs.Common.{append-nil, take-append-drop}
-pub use Rattle.std.proofs.Common.{Result, Ok, Err, ◌-◌, ◌^◌, ◌<◌, Bool, false, length-append, zero, suc, ◌%◌, true, replicate, add-one, Option, ◌*◌}
-pub use Rattle.std.proofs.Common.{slice_index, map, ◌⊎◌}
-pub use Rattle.std.proofs.Common.{MatchResult, unsigned_abs, length-take, ◌/◌, length-drop, max, take-add, drop-cons, length-take-le, rules, take_all}
+pub use Rattle.std.proofs.Common.{append-nil, take-append-drop, Result, Ok, Err, ◌-◌, ◌^◌, ◌<◌, Bool, false, length-append, zero, suc, ◌%◌, true, replicate}
+pub use Rattle.std.proofs.Common.{add-one, Option, ◌*◌, slice_index, map, ◌⊎◌, MatchResult, unsigned_abs, length-take, ◌/◌, length-drop, max, take-add}
+pub use Rattle.std.proofs.Common.{drop-cons, length-take-le, rules, take_all}
 pub use Rattle.std.proofs.KnownBytes.{Consumes-nil}
 pub use Rattle.std.proofs.Math.Nat.{pow-suc}
 pub use Rattle.std.proofs.Math.Seq.{get_or-append_seam, take-append_seam, drop-append_seam, take-append-add, get_or-drop}
@@ -33,16 +32,15 @@ pub use Rattle.tds_values.specs.TypeInfo.{kind_of, IsTypeInfo}
 pub use Rattle.tds_values.specs.declared.charset.Charset.{Charset}
 pub use Rattle.tds_values.specs.declared.charset.Charset.TheVariants.{Windows1252, Utf8}
 pub use Rattle.tds_values.specs.declared.kind.Kind.{Kind}
-pub use Rattle.tds_values.specs.declared.kind.Kind.TheVariants.{IntN, Guid, Decimal, Time, DateTime2, DateTimeOffset, Int4}
+pub use Rattle.tds_values.specs.declared.kind.Kind.TheVariants.{Guid, Decimal, Time, DateTime2, DateTimeOffset, Int4}
 pub use Rattle.tds_values.specs.declared.scalar.ScalarValue.{ScalarValue}
 pub use Rattle.tds_values.specs.declared.scalar.ValueFault.{ValueFault}
 pub use Rattle.tds_packet.proofs.Choices.{choose, choose_false, eq_true, eq_false, le_true, test_le, test_lt, choose_true, is_some_value, lt_true}
 pub use Rattle.tds_packet.proofs.ElementLaws.{Spelt-induct, feed-Spelt, feed_all-append, longest_cut, one_longest, read_longest, told, Spelt-append, Spelt-step}
-pub use Rattle.tds_packet.proofs.ElementLaws.{Spelt-none, Inside}
-pub use Rattle.tds_packet.proofs.ElementLaws.{Inside-Spelt, AreBytes-front, AreBytes-back, longest_refused, Spelt-one, some_longest, one_state}
-pub use Rattle.tds_packet.proofs.ElementLaws.{refused_for_good, no_further}
+pub use Rattle.tds_packet.proofs.ElementLaws.{Spelt-none, Inside, Inside-Spelt, AreBytes-front, AreBytes-back, longest_refused, Spelt-one, some_longest}
+pub use Rattle.tds_packet.proofs.ElementLaws.{one_state, refused_for_good, no_further}
 pub use Rattle.tds_packet.proofs.Feeding.{Reading, feed_all, read, state_of, rest_of, fault_of}
-pub use Rattle.tds_packet.proofs.Fronts.{EndsMessage, InLast, StopsAfterPackets, in_last, takes_begins, ends_front, over_front, wire_goes_on}
+pub use Rattle.tds_packet.proofs.Fronts.{EndsMessage, StopsAfterPackets, in_last, takes_begins, ends_front, over_front, wire_goes_on}
 pub use Rattle.tds_packet.proofs.Futures.{Ends-after, Takes-none, Takes-trans}
 pub use Rattle.tds_packet.proofs.InnerGrammars.{reads_inside, stops_inside, last_inside}
 pub use Rattle.tds_packet.proofs.Joins.{Stays-none}
@@ -55,16 +53,14 @@ pub use Rattle.tds_packet.proofs.WireFaults.{IsOfWire, message_of_wire}
 pub use Rattle.tds_packet.specs.Coming.{Coming, before, whole_message}
 pub use Rattle.tds_packet.specs.Elements.{IsRefused, Longest, Spelt, AreBytes, IsNext, Grammar}
 pub use Rattle.tds_packet.specs.Packets.{AreBefore, BeforeBody, BeforeHeader, AfterLast, Message, Packet, WireFault, WirePart, WirePlace, header_length}
-pub use Rattle.tds_packet.specs.Packets.{no_wire, payload_of, wire, wire_add}
-pub use Rattle.tds_packet.specs.Packets.{wire_of, with_packet, AreMessage, packet_bytes}
+pub use Rattle.tds_packet.specs.Packets.{no_wire, payload_of, wire, wire_add, wire_of, with_packet, AreMessage}
 pub use Rattle.tds_packet.specs.PayloadView.{PayloadView, Takes, Ends, began_at, begun, IsOver, IsBetween}
 pub use Rattle.tds_packet.specs.Payloads.{IsOnSame, seen, buffered}
 pub use Rattle.tds_packet.specs.Reading.{StopsReading, RefusesNext, Reads, CutsNext}
 pub use Rattle.tds_packet.specs.declared.fault.Fault.{Fault}
 pub use Rattle.tds_packet.specs.declared.fault.Fault.TheVariants.{BadNotice, BadValue, BadText, OddText, PlpLength, BadTypeInfo, ReadFailed, WriteFailed}
-pub use Rattle.tds_packet.specs.declared.fault.Fault.TheVariants.{MessageEnded, NoColumns}
-pub use Rattle.tds_packet.specs.declared.fault.Fault.TheVariants.{DescriptionTooLong, RefusedToken, EndWithoutDone, BadValueLength, RefusedColumn}
-pub use Rattle.tds_packet.specs.declared.fault.Fault.TheVariants.{RowWithoutColumns, UnknownType}
+pub use Rattle.tds_packet.specs.declared.fault.Fault.TheVariants.{MessageEnded, NoColumns, DescriptionTooLong, RefusedToken, EndWithoutDone, BadValueLength}
+pub use Rattle.tds_packet.specs.declared.fault.Fault.TheVariants.{RefusedColumn, RowWithoutColumns, UnknownType}
 pub use Rattle.tds_packet.specs.declared.fault.Place.{Place}
 pub use Rattle.tds_packet.specs.declared.fault.Place.TheVariants.{Wire, Payload, Text}
 pub use Rattle.tds_packet.specs.declared.fault.RefusedKind.TheVariants.{Flt8, FltN}
@@ -75,8 +71,8 @@ pub use Rattle.tds_columns.proofs.ColumnMeaning.{not_long, not_zero, room_for, k
 pub use Rattle.tds_columns.proofs.ElementSteps.{cut_into, refused_into}
 pub use Rattle.tds_columns.proofs.ViewLaws.{description_shows}
 pub use Rattle.tds_columns.specs.Description.{Column, SpellsColumn, SpellsColumns, ColumnPlace, ColumnHead, ColumnInfo, NameCount, NameUnits, DescriptionPart}
-pub use Rattle.tds_columns.specs.Description.{BeforeCount, NoDescription}
-pub use Rattle.tds_columns.specs.Description.{InColumn, WholeDescription, with_column, with_kind, add_described, description, type_fault, span}
+pub use Rattle.tds_columns.specs.Description.{BeforeCount, NoDescription, InColumn, WholeDescription, with_column, with_kind, add_described, description}
+pub use Rattle.tds_columns.specs.Description.{type_fault, span}
 pub use Rattle.tds_columns.specs.Elements.{TakesInto, EndsInto}
 pub use Rattle.tds_columns.specs.Gather.{Describes, StopsDescribing}
 pub use Rattle.tds_columns.specs.ReturnedType.{return_column, KnownType, NoType, ReadsType, StopsType, TypeHead, TypePart, TypeRest, returned_type, with_known}
@@ -113,39 +109,31 @@ pub use Rattle.tds_rows.proofs.Successes.{rose}
 pub use Rattle.tds_rows.specs.PassedCells.{PassesCell, StopsPassing}
 pub use Rattle.tds_rows.specs.RowSteps.{ReadsRows, RowsStop}
 pub use Rattle.tds_export.specs.Completion.{zeros, zero_chunks, terminator, rest_of_chunks, rest_of_cell, int_column, int_columns, least_info}
-pub use Rattle.tds_export.specs.Completion.{rest_of_description, rest_of_row}
-pub use Rattle.tds_export.specs.Completion.{rest_of_return, rest_of_token, done, completion, CanBeCompleted, rest_of_return_head, rest_of_value, rest_of_cells}
-pub use Rattle.tds_export.specs.Completion.{all_clear}
+pub use Rattle.tds_export.specs.Completion.{rest_of_description, rest_of_row, rest_of_return, rest_of_token, done, completion, CanBeCompleted}
+pub use Rattle.tds_export.specs.Completion.{rest_of_return_head, rest_of_value, rest_of_cells, all_clear}
 pub use Rattle.tds_export.specs.Exporters.{View, IsOnSameRun, IsRunning, LeavesRun, StepRead, ReadsNext, StopsIn, view_of, FindsEnd}
 pub use Rattle.tds_export.specs.Exports.{StopsExport, begun_at, fresh_at, Reports, IsReader, IsWriter, FlushedOrFailed, stopped_with}
 pub use Rattle.tds_export.specs.Moments.{Run, ExportInput, grammar_of, limits_of, FailsToRead, FailsToWrite, limits, run_of, text_put, waiting, moment}
 pub use Rattle.tds_export.specs.Noticing.{ReadsNotice, StopsInNotice}
-pub use Rattle.tds_export.specs.Outcome.{Outcome, IsAccepted, Packets, Stops, SucceedsIfAccepted, grammar, server_error, signed, EndsInLast, IsKept, Keeps}
-pub use Rattle.tds_export.specs.Outcome.{StopsInPayload, StopsOnWire}
-pub use Rattle.tds_export.specs.Outcome.{Answer, Bounded, ReadsPart, Reported, StopsInText, Comes}
+pub use Rattle.tds_export.specs.Outcome.{Outcome, IsAccepted, Packets, Stops, SucceedsIfAccepted, grammar, server_error, signed, IsKept, Keeps, StopsInPayload}
+pub use Rattle.tds_export.specs.Outcome.{StopsOnWire, Answer, Bounded, ReadsPart, Reported, StopsInText, Comes}
 pub use Rattle.tds_export.specs.Response.{Accepted, Response, SpellsNotice, StartsToken, IsFirst, SpellsBody, SpellsRowToken, SpellsToken, SpellsTokens}
 pub use Rattle.tds_export.specs.ReturnValue.{ReturnPart, WholeReturn, return_add, return_value, ReturnValue, ReturnOrdinal, ReturnNameCount, ReturnName}
-pub use Rattle.tds_export.specs.ReturnValue.{ReturnHead, ReturnInfo}
-pub use Rattle.tds_export.specs.ReturnValue.{InReturnCell, with_value, with_return_kind, return_fault, SpellsReturnName, SpellsReturnValue, with_return_type}
-pub use Rattle.tds_export.specs.ReturnValue.{with_return_units, return_size}
+pub use Rattle.tds_export.specs.ReturnValue.{ReturnHead, ReturnInfo, InReturnCell, with_value, with_return_kind, return_fault, SpellsReturnName}
+pub use Rattle.tds_export.specs.ReturnValue.{SpellsReturnValue, with_return_type, with_return_units, return_size}
 pub use Rattle.tds_export.specs.Returning.{ReadsReturn, ReadsValue, StopsReturn, before_value}
 pub use Rattle.tds_export.specs.Steps.{Reflects, after_tokens, IsHolding, ReadsTokens, StepStops, TracksBefore, in_length, RunStops, CompletesResponse, IsNoted}
-pub use Rattle.tds_export.specs.Steps.{description_of}
-pub use Rattle.tds_export.specs.Steps.{StopsInWriting, ReadsWhole, in_return, IsDescribed, Tracks, IsRefusedByte, IsUnder, in_lead, lead}
+pub use Rattle.tds_export.specs.Steps.{description_of, StopsInWriting, ReadsWhole, in_return, IsDescribed, Tracks, IsRefusedByte, IsUnder, in_lead, lead}
 pub use Rattle.tds_export.specs.Steps.{in_fields, in_metadata, in_row}
 pub use Rattle.tds_export.specs.TokenBytes.{Bodied, APassed, AnError, AnInfo, ADone, Lead, done_byte, lead_of, Fixed, AStatus, ADoneInProc, AMetadata, ARow}
-pub use Rattle.tds_export.specs.TokenBytes.{AnNbcRow, WithBody, WithFields}
-pub use Rattle.tds_export.specs.TokenBytes.{AReturn, is_row_lead}
+pub use Rattle.tds_export.specs.TokenBytes.{AnNbcRow, WithBody, WithFields, AReturn, is_row_lead}
 pub use Rattle.tds_export.specs.TokenGrammar.{Part, response_start, TokenBody, TokenLength, bodied, holds_notice, is_notice, part_fault, response, with_token}
-pub use Rattle.tds_export.specs.TokenGrammar.{Open, Between, Describing}
-pub use Rattle.tds_export.specs.TokenGrammar.{Fields, InRow, InReturn, with_described, with_row, with_return, start_of_row, after_first, part_add, server_at}
-pub use Rattle.tds_export.specs.TokenGrammar.{procedure_at, line_at}
-pub use Rattle.tds_export.specs.TokenGrammar.{notice_of, text_so_far, lead_fault, row_byte_fault, span_so_far, open_span, open_text, after_lead}
+pub use Rattle.tds_export.specs.TokenGrammar.{Open, Between, Describing, Fields, InRow, InReturn, with_described, with_row, with_return, start_of_row}
+pub use Rattle.tds_export.specs.TokenGrammar.{after_first, part_add, server_at, procedure_at, line_at, notice_of, text_so_far, lead_fault, row_byte_fault}
+pub use Rattle.tds_export.specs.TokenGrammar.{span_so_far, open_span, open_text, after_lead}
 pub use Rattle.tds_export.specs.Tokens.{Token, text, Metadata, Row, Returned, Done, described_after, fields_length, fixed, name_field, Notice, Error, Info}
-pub use Rattle.tds_export.specs.Tokens.{first_error}
-pub use Rattle.tds_export.specs.Tokens.{how_many, is_error, NoMetadata, greatest_span, text_after, PassedOver, ReturnStatus, DoneInProc, more, is_final}
-pub use Rattle.tds_export.specs.Tokens.{encoded_after, header_line, between}
-pub use Rattle.tds_export.specs.Tokens.{is_return, is_set, return_status_after}
+pub use Rattle.tds_export.specs.Tokens.{first_error, how_many, is_error, NoMetadata, greatest_span, text_after, PassedOver, ReturnStatus, DoneInProc, more}
+pub use Rattle.tds_export.specs.Tokens.{is_final, encoded_after, header_line, between, is_return, is_set, return_status_after}
 pub use Rattle.tds_export.specs.declared.exporter.Exporter.{Exporter}
 pub use Rattle.tds_export.specs.declared.progress.Progress.{Progress}
 pub use Rattle.tds_export.specs.declared.report.Report.{Report}
