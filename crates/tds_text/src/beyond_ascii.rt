@@ -186,3 +186,17 @@ pub(crate) fn put_units(to: &mut [u8], at: usize, lanes: u8x16, n: usize) -> Opt
     }
     Some(put_pairs(to, at, units, wide_units(units), n))
 }
+
+// Writes the text of eight units, and returns whether it did: if all of them are characters of ASCII and none is a quote.
+#[inline(always)]
+pub(crate) fn put_plain(to: &mut [u8], at: usize, lanes: u8x16) -> bool
+    requires { at + UNITS ≤ length to.old }
+    ensures same { result ≡ false → to.new ≡ to.old }
+    ensures written { result ≡ true → AddsUnits to.old to.new at (at + UNITS) UNITS (utf16.units lanes) }
+{
+    if !are_plain(units_of(lanes)) {
+        return false;
+    }
+    put_lanes(to, at, low_bytes(lanes), UNITS);
+    true
+}

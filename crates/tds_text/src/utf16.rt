@@ -7,7 +7,7 @@ ghost use Rattle.tds_text.specs.Plain.{LiesIn};
 ghost use Rattle.tds_text.specs.Utf16 as utf16;
 ghost use Rattle.tds_text.specs.Utf16Next.{Converts, ConvertsIn, IsCharacter, IsNext, LeavesRest};
 
-use crate::beyond_ascii::put_units;
+use crate::beyond_ascii::{put_plain, put_units};
 use crate::encode::put_quoted;
 use crate::lanes::{LANES, first_set};
 use crate::lanes_utf16::{UNITS, surrogate_units, units_of};
@@ -126,6 +126,28 @@ pub(crate) fn convert_one(bytes: &[u8], from: usize, to: &mut [u8], start: usize
     }
 }
 
+// Goes on with the text by eight units, of which the last begin at `last` at the latest, as long as all of them are characters of
+// ASCII and none is a quote.
+#[inline(always)]
+fn convert_plain(bytes: &[u8], last: usize, from: usize, to: &mut [u8], start: usize) -> Span
+    requires last { last + LANES ≤ length bytes.now }
+    requires long { 3 * length bytes.now + 2 * LANES ≤ 2 * length to.old }
+    requires before { Converts bytes.now to.old from start }
+    ensures more { from ≤ result.used }
+    ensures after { Converts bytes.now to.new result.used result.made }
+{
+    let mut at = from;
+    let mut made = start;
+    while at <= last {
+        if !put_plain(to, made, u8x16::from_slice(&bytes[at..])) {
+            break;
+        }
+        at += LANES;
+        made += UNITS;
+    }
+    Span { used: at, made }
+}
+
 // Goes on with the text by eight units, of which the last begin at `last` at the latest, up to the next surrogate.
 #[inline(always)]
 fn convert_full(bytes: &[u8], last: usize, from: usize, to: &mut [u8], start: usize) -> Span
@@ -185,7 +207,8 @@ fn convert_some(
     }
 }
 
-// Goes on with the text up to the next surrogate: by the units that are left over when eight are taken at a time, then by eight.
+// Goes on with the text up to the next surrogate: by the units that are left over when eight are taken at a time, then by eight,
+// those that are plain first.
 #[inline(always)]
 fn convert_run(bytes: &[u8], source: &[u8], from: usize, to: &mut [u8], start: usize) -> Span
     requires { ConvertsIn bytes.now source.now to.old from start }
@@ -197,7 +220,12 @@ fn convert_run(bytes: &[u8], source: &[u8], from: usize, to: &mut [u8], start: u
     if bytes.len() - run.used < LANES {
         return run;
     }
-    convert_full(bytes, bytes.len() - LANES, run.used, to, run.made)
+    let last = bytes.len() - LANES;
+    let plain = convert_plain(bytes, last, run.used, to, run.made);
+    if plain.used > last {
+        return plain;
+    }
+    convert_full(bytes, last, plain.used, to, plain.made)
 }
 
 // How many of the next eight units come before the first surrogate among them.
