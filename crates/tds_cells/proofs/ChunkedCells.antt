@@ -1,30 +1,47 @@
--- Cells of values in one chunk at most whose bytes lie together.
+-- Cells of values in one chunk at most whose bytes lie together, for `write_apart`; and the numbers before and after a chunk.
 use Rattle.tds_cells.proofs as N
-use N.{◌≡◌, ◌∙◌, ◌==◌, ◌-◌, ◌^◌, ℕ, ◌+◌, ◌<◌, ◌≤◌, [], ◌∷◌, ◌++◌, List, length, take, drop, zero, suc, refl, sym, ap, arith, common_steps, SpellsChunked}
+use N.{◌≡◌, ◌≢◌, ◌∙◌, ◌==◌, ◌-◌, ◌^◌, ℕ, ◌+◌, ◌<◌, ◌≤◌, [], ◌∷◌, ◌++◌, List, length, take, drop, zero, suc, refl, sym, ap, arith, common_steps, SpellsChunked}
 use N.{HasOneChunk}
 use N.CellLaws.{cell_is_read}
 use Rattle.byteorder.specs.Endian.{little_number}
+use Rattle.std.proofs.lemmas.Bool.{cases_lt}
 
 -- the data of so many bytes in the first chunk
 abbrev chunk_data : ℕ → List ℕ → List ℕ
 chunk_data n bytes = take n (drop 12 bytes)
 
 -- the number in some bytes within others
-four_at : (k : ℕ) (bytes : List ℕ) → k + 4 ≤ length bytes
+pub four_at : (k : ℕ) (bytes : List ℕ) → k + 4 ≤ length bytes
     → (length (take 4 (drop k bytes)) ≡ 4) × (N.little (take 4 (drop k bytes)) ≡ little_number 4 (drop k bytes))
 four_at k bytes within = grind (arith, common_steps)
 
-eight_at_front : (bytes : List ℕ) → 8 ≤ length bytes → (length (take 8 bytes) ≡ 8) × (N.little (take 8 bytes) ≡ little_number 8 bytes)
+pub eight_at_front : (bytes : List ℕ) → 8 ≤ length bytes → (length (take 8 bytes) ≡ 8) × (N.little (take 8 bytes) ≡ little_number 8 bytes)
 eight_at_front bytes within = grind arith
 
 -- the terminator
-zeros_at : (k : ℕ) (bytes : List ℕ) → k + 4 ≤ length bytes → little_number 4 (drop k bytes) ≡ 0 → take 4 (drop k bytes) ≡ 0 ∷ 0 ∷ 0 ∷ 0 ∷ []
+pub zeros_at : (k : ℕ) (bytes : List ℕ) → k + 4 ≤ length bytes → little_number 4 (drop k bytes) ≡ 0 → take 4 (drop k bytes) ≡ 0 ∷ 0 ∷ 0 ∷ 0 ∷ []
 zeros_at k bytes within none = grind (arith, common_steps)
 
 bytes_are : (n : ℕ) (bytes : List ℕ) → ((i : ℕ) → N.slice_index bytes i < 256) → N.AreBytes (take n bytes)
 bytes_are zero bytes low = tt
 bytes_are (suc n) [] low = tt
 bytes_are (suc n) (x ∷ xs) low = (low 0, bytes_are n xs (λ i. low (suc i)))
+
+-- the size of the terminator, and of a chunk and those after it
+pub chunks_end : (most : ℕ) (bytes : List ℕ) → little_number 4 bytes ≡ 0 → N.chunks_size (suc most) bytes ≡ 4
+chunks_end most bytes none = grind arith
+
+pub chunks_next : (most n : ℕ) (bytes : List ℕ) → n ≡ little_number 4 bytes → 0 < n
+    → N.chunks_size (suc most) bytes ≡ 4 + n + N.chunks_size most (drop (4 + n) bytes)
+chunks_next most n bytes counted some = grind arith
+
+pub size_is : (bytes : List ℕ) (k : ℕ) → little_number 8 bytes ≢ 2 ^ 64 - 1 → 8 + N.chunks_size (length bytes) (drop 8 bytes) ≡ k
+    → k ≡ N.long_size N.Chunked bytes
+size_is bytes k some is = grind arith
+
+-- a cell has some bytes
+pub end_some : (n k : ℕ) → k ≡ N.chunk_end n → (k == 0) ≡ N.false
+end_some n k is = grind arith
 
 module _ (bytes : List ℕ) where
   -- the total alone
@@ -66,6 +83,24 @@ module _ (bytes : List ℕ) where
         each = grind (arith, zeros_at);
         all = N.append-nil d;
       }
+
+  -- its cell has as many bytes
+  after_one : (n most : ℕ) → 0 < n → HasOneChunk bytes n → N.chunks_size (suc (suc most)) (drop 8 bytes) ≡ 4 + n + 4
+  after_one n most some x =
+      let end : drop (4 + n) (drop 8 bytes) ≡ drop (12 + n) bytes = N.drop-drop (4 + n) 8 bytes ∙ ap (λ (k : ℕ). drop k bytes) (omega arith) in
+      chunks_next (suc most) n (drop 8 bytes) x.counted some
+      ∙ ap (λ (k : ℕ). 4 + n + k) (chunks_end most (drop (4 + n) (drop 8 bytes)) (ap (little_number 4) end ∙ x.ended some))
+
+  after_total : (n most : ℕ) → HasOneChunk bytes n → 8 + N.chunks_size (suc (suc most)) (drop 8 bytes) ≡ N.chunk_end n
+  after_total n most x = elim (cases_lt 0 n) [
+    | N.inl some ↦ ap (λ (k : ℕ). 8 + k) (after_one n most some x) ∙ grind arith
+    | N.inr none ↦ ap (λ (k : ℕ). 8 + k) (chunks_end (suc most) (drop 8 bytes) (sym x.counted ∙ omega (arith, none))) ∙ grind arith
+  ]
+
+  pub one_chunk_size : (n : ℕ) → little_number 8 bytes ≢ 2 ^ 64 - 1 → HasOneChunk bytes n → N.chunk_end n ≡ N.long_size N.Chunked bytes
+  one_chunk_size n some x =
+      let most : length bytes ≡ suc (suc (length bytes - 2)) = grind arith in
+      size_is bytes (N.chunk_end n) some (ap (λ (k : ℕ). 8 + N.chunks_size k (drop 8 bytes)) most ∙ after_total n (length bytes - 2) x)
 
   -- one chunk whose total agrees, with the terminator, spells its data
   chunk_spells : (n : ℕ) → HasOneChunk bytes n → SpellsChunked (chunk_data n bytes) (take (N.chunk_end n) bytes)

@@ -15,6 +15,7 @@ pub mod RunSteps
 mod Bits
 mod ShortCells
 mod ChunkedCells
+pub mod SeveralChunks
 pub mod NbcRuns
 mod NullRuns
 mod FarRuns

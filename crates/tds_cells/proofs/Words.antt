@@ -52,7 +52,7 @@ pub use Rattle.tds_cells.specs.Rows.{SpellsRow, row, NbcRow, row_so_far, with_fi
 pub use Rattle.tds_cells.specs.Rows.{next_cell}
 pub use Rattle.tds_cells.specs.Runs.{KnownRan, rows_so_far, lines, rows, Writes, after_cells, RowsPart}
 pub use Rattle.tds_cells.specs.Runs.{WritesRows}
-pub use Rattle.tds_cells.specs.LongFields.{HasOneChunk, IsLongLeft, chunk_end, data_length}
+pub use Rattle.tds_cells.specs.LongFields.{HasOneChunk, IsLongLeft, LongWritten, chunk_end, chunks_size, data_length, long_size}
 pub use Rattle.tds_cells.specs.RowFormats.{BeginsRow, IsCursor, AreAtCursor, Knows, NextColumn, place}
 pub use Rattle.tds_cells.specs.WholeCells.{WritesCell, WritesWhole}
 pub use Rattle.tds_cells.specs.declared.layout.CellFormat.{CellFormat}

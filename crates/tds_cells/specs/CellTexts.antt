@@ -44,7 +44,7 @@ abbrev pub is_counted : Kind → Bool
 is_counted (IntN n) = true
 is_counted kind = false
 
--- how many bytes the cell at the front of these bytes has; of one in several chunks nothing is said
+-- how many bytes the cell at the front of these bytes has
 abbrev pub whole_size : Kind → List ℕ → ℕ
 whole_size kind bytes = if is_scalar kind then scalar_size kind bytes else long_size (reach_of kind) bytes
 

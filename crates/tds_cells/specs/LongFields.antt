@@ -1,5 +1,6 @@
 -- The fields of long values whose bytes lie together (MS-TDS, Data Stream Types).
-use Rattle.std.specs.Prelude.{◌≡◌, ◌≢◌, ◌==◌, ◌⊎◌, ◌+◌, ◌-◌, ◌^◌, ◌<◌, ◌≤◌, ℕ, Bool, false, List, length, take, drop, if◌then◌else◌, Option, MatchOption}
+use Rattle.std.specs.Prelude.{◌≡◌, ◌≢◌, ◌==◌, ◌⊎◌, ◌+◌, ◌-◌, ◌^◌, ◌<◌, ◌≤◌, ℕ, zero, suc, Bool, false, List, length, take, drop, if◌then◌else◌}
+use Rattle.std.specs.Prelude.{Option, MatchOption}
 use Rattle.byteorder.specs.Endian.{little_number}
 use Rattle.tds_values.specs.declared.kind.Kind.{Kind}
 use Rattle.tds_values.specs.declared.kind.Kind.TheVariants.{Binary, Narrow, Wide}
@@ -37,11 +38,17 @@ pub record HasOneChunk (bytes : List ℕ) (n : ℕ) : Type 0 where
   pub within : chunk_end n ≤ length bytes
   pub ended : 0 < n → little_number 4 (drop (12 + n) bytes) ≡ 0
 
+-- how many bytes the chunks at the front of these bytes have with the terminator, if they are no more than this number
+abbrev pub chunks_size : ℕ → List ℕ → ℕ
+chunks_size zero bytes = 0
+chunks_size (suc most) bytes =
+    if little_number 4 bytes == 0 then 4 else 4 + little_number 4 bytes + chunks_size most (drop (4 + little_number 4 bytes) bytes)
+
 -- how many bytes the cell of a long value at the front of these bytes has: a short one its length of two bytes and its data; one in chunks its total of
--- eight bytes, if that is NULL's, and else what one chunk or none has; of one in several chunks nothing is said
+-- eight bytes, and unless that is NULL's the chunks and the terminator
 abbrev pub long_size : Reach → List ℕ → ℕ
 long_size Short bytes = 2 + data_length bytes
-long_size Chunked bytes = if little_number 8 bytes == (2 ^ 64 - 1) then 8 else chunk_end (little_number 4 (drop 8 bytes))
+long_size Chunked bytes = if little_number 8 bytes == (2 ^ 64 - 1) then 8 else 8 + chunks_size (length bytes) (drop 8 bytes)
 
 -- The value of this shape at the front of these bytes is left for another way, with this much room, if it is a long one: a short one isn't whole, one in
 -- chunks isn't NULL with four bytes after it nor whole in one chunk at most; or it may want more room than there is, or its data isn't whole text.

@@ -4,15 +4,18 @@
 //! A [`RowFormat`] knows of each column of a description, or of the first 1,024, how its cells are written: its [`CellFormat`]. A
 //! run writes the text of cell after cell, from a place in a row, as far as their bytes are whole and there is room, and
 //! says how many bytes it used and made, and where it ended. Nothing is read or delivered here, and no fault is named: a
-//! cell that isn't whole, is refused or is in several chunks is left to the caller; `write_one` says why ([`Left`]).
+//! cell that isn't whole or is refused, or has a chunk that ends within a character, is left to the caller; `write_one` says why
+//! ([`Left`]).
 //!
 //! # The way in
 //!
-//! `layout.rt` has the formats, `row_format.rt` the row formats and the places in a row, and `whole.rt` one cell. `run.rt` has the
-//! loops over the cells of ROWs, with those over formats in `run/formats.rt`, and `nulls.rt` those of NBCROWs. `specs/Cells`
-//! and `specs/Rows` have the one grammar of cells and rows, to which `tds_rows` is held too.
+//! `layout.rt` has the formats, `row_format.rt` the row formats and the places in a row, `whole.rt` one cell, and `chunks.rt` a
+//! value in several chunks. `run.rt` has the loops over the cells of ROWs, with those over formats in `run/formats.rt`, and
+//! `nulls.rt` those of NBCROWs. `specs/Cells` and `specs/Rows` have the one grammar of cells and rows, to which `tds_rows` is
+//! held too.
 #![tactic(auto, using(tds_packet::proofs::Passing::passed))]
 
+mod chunks;
 pub mod laws;
 mod layout;
 mod nulls;

@@ -64,8 +64,7 @@ fn clear_end(bitmap: &[u8], from: u16, known: u16, count: u16) -> u16
     requires most { known ≤ count }
     requires clear { BitsAre false (bit bitmap.now) from known }
     ensures within { (from ≤ result) × (result ≤ count) }
-    ensures clear { BitsAre false (bit bitmap.now) from result }
-    ensures set { result < count → bit bitmap.now result ≡ true }
+    ensures ends { BitsAre false (bit bitmap.now) from result × (result < count → bit bitmap.now result ≡ true) }
 {
     let mut at = from.max(known) as usize;
     while at < count as usize {
@@ -120,8 +119,8 @@ fn write_nulls(bitmap: &[u8], column: u16, count: u16, most: usize, to: &mut [u8
     requires null { (column < count) × (bit bitmap.now column ≡ true) }
     requires most { 0 < most }
     requires room { CELL_ROOM ≤ length to.old }
-    ensures most { (result.columns ≤ most) × (result.made ≤ 40) }
-    ensures within { (0 < result.columns) × (column + result.columns ≤ count) }
+    ensures within { (0 < result.columns) × (result.columns ≤ most) × (column + result.columns ≤ count)
+        × (result.made ≤ 40) }
     ensures nulls { (charset : Charset) (columns : List Column) → length columns ≡ count →
         WritesMarked charset columns (bit bitmap.now) column result.columns [] (take result.made to.new) }
 {
@@ -199,8 +198,7 @@ impl<'a> RowFormat<'a> {
     /// next, or the last without one.
     #[inline(never)]
     pub fn run_far_rows(&self, bytes: &[u8], to: &mut [u8]) -> WholeRows
-        requires all { self.now.known ≡ self.now.count }
-        requires some { 0 < self.now.count }
+        requires known { (self.now.known ≡ self.now.count) × (0 < self.now.count) }
         ensures used { result.span.used ≤ length bytes.now }
         ensures made { result.span.made ≤ length to.old }
         ensures few { result.span.rows ≤ result.span.used }
@@ -300,8 +298,8 @@ impl<'a> RowFormat<'a> {
         self.run_marked::<false>(at, bitmap, bytes, to)
     }
 
-    /// Writes cell after cell of a row, as far as they are NULL by a bit or whole in these bytes, aren't in several chunks and have
-    /// room, and steps over them; over the ends of rows as `run_rows` does, if they are ROWs.
+    /// Writes cell after cell of a row, as far as they are NULL by a bit or whole in these bytes and have room, and steps over
+    /// them; over the ends of rows as `run_rows` does, if they are ROWs.
     #[inline(always)]
     pub fn run(&self, at: &mut Cursor<'a>, nulls: Nulls, bytes: &[u8], to: &mut [u8]) -> RowsSpan
         requires some { 0 < self.now.count }
@@ -323,8 +321,7 @@ impl<'a> RowFormat<'a> {
     #[inline(always)]
     pub fn run_in_row(&self, at: &mut Cursor<'a>, nulls: Nulls, bytes: &[u8], to: &mut [u8]) -> Span
         requires covers { Covers nulls self.now.count }
-        ensures used { result.used ≤ length bytes.now }
-        ensures made { result.made ≤ length to.old }
+        ensures within { (result.used ≤ length bytes.now) × (result.made ≤ length to.old) }
         ensures ends { nulls.entry ≡ Unmarked → result.used ≡ 0 → at.old.column < self.now.count →
             EndsLeft self.now (nulls_of Unmarked) at.old bytes.now (length to.old) }
         ensures left { nulls.entry ≡ Unmarked → LeavesNext self.now at.old at.new (min self.now.known self.now.count)

@@ -108,8 +108,8 @@ fn no_span() -> Span
 }
 
 impl<'a> RowFormat<'a> {
-    // Writes cell after cell of a row by the formats of the next ones, as far as they are whole in these bytes, aren't in several
-    // chunks and have room, and steps over them.
+    // Writes cell after cell of a row by the formats of the next ones, as far as they are whole in these bytes and have room, and
+    // steps over them.
     #[inline(always)]
     fn run_along(
         &self,
@@ -137,8 +137,7 @@ impl<'a> RowFormat<'a> {
         }
     }
 
-    // Writes the next cell of a row, which the row format doesn't know, if it is whole in these bytes, isn't in several chunks and has
-    // room.
+    // Writes the next cell of a row, which the row format doesn't know, if it is whole in these bytes and has room.
     #[inline(never)]
     fn run_unknown(&self, at: &mut Cursor<'a>, end: u16, bytes: &[u8], to: &mut [u8]) -> Span
         requires within { end ≤ self.now.count }
@@ -155,8 +154,8 @@ impl<'a> RowFormat<'a> {
         self.run_along(at, end, &one, bytes, to)
     }
 
-    /// Writes cell after cell of a row, as far as they are whole in these bytes, aren't in several chunks and have room, up to the
-    /// column at which it ends, and steps over them. `KNOWN` says that the row format knows all columns.
+    /// Writes cell after cell of a row, as far as they are whole in these bytes and have room, up to the column at which it ends,
+    /// and steps over them. `KNOWN` says that the row format knows all columns.
     #[inline(always)]
     pub(crate) fn run_cells<const KNOWN: bool>(
         &self,
@@ -316,8 +315,8 @@ impl<'a> RowFormat<'a> {
         self.run_numbers::<false>(bytes, to)
     }
 
-    // Writes cell after cell of rows whose columns the row format all knows, as far as they are whole in these bytes, aren't in several
-    // chunks and have room, over the ends of rows. `NUMBERS` says that all their values are whole numbers of four bytes.
+    // Writes cell after cell of rows whose columns the row format all knows, as far as they are whole in these bytes and have room,
+    // over the ends of rows. `NUMBERS` says that all their values are whole numbers of four bytes.
     #[inline(never)]
     fn run_known<const NUMBERS: bool>(&self, from: u16, bytes: &[u8], to: &mut [u8]) -> KnownRun
         requires all { self.now.known ≡ self.now.count }
@@ -395,8 +394,8 @@ impl<'a> RowFormat<'a> {
         run
     }
 
-    /// Writes cell after cell, as far as they are whole in these bytes, aren't in several chunks and have room, over the
-    /// ends of rows, and steps over them: after a whole row it goes on if the byte of the next ROW follows.
+    /// Writes cell after cell, as far as they are whole in these bytes and have room, over the ends of rows, and steps over them:
+    /// after a whole row it goes on if the byte of the next ROW follows.
     #[inline(always)]
     pub(crate) fn run_rows(&self, at: &mut Cursor<'a>, bytes: &[u8], to: &mut [u8]) -> RowsSpan
         requires some { 0 < self.now.count }

@@ -1,4 +1,4 @@
-// A cell that is whole in the packet: its bytes are together. A value in chunks has one at most.
+// A cell that is whole in the packet: its bytes are together.
 ghost use Rattle.std.specs.Prelude.{◌≡◌, ◌==◌, ◌+◌, ◌-◌, ◌<◌, ◌≤◌, ℕ, drop, length, take, is_ok, false, true, None, Some, IfErr, IfSome, IsTrue, MatchOption, if◌then◌else◌};
 ghost use Rattle.std.specs.Result.{result_ok};
 ghost use Rattle.tds_cells.specs.CellTexts.{CellWritten, IsLeftFor, WritesField, is_counted, is_int4, whole_size};
@@ -14,6 +14,7 @@ ghost use Rattle.tds_values.specs.declared.kind.Kind.{Kind};
 ghost use Rattle.tds_text.specs.Fields.{conversion_of};
 ghost use Rattle.tds_cells.specs.Layouts.{IsLaidOut};
 
+use crate::chunks::{CHUNK_LENGTH_SIZE, LONGEST_DATA, TOTAL_SIZE, write_chunks};
 use crate::layout::{CellFormat, Layout};
 use crate::row_format::is_counted;
 use byteorder::{ByteOrder, LittleEndian};
@@ -63,17 +64,8 @@ fn write_short(content: Content, bytes: &[u8], to: &mut [u8]) -> Option<Span>
     Some(Span { used, made })
 }
 
-// How many bytes the total before a value in chunks has.
-const TOTAL_SIZE: usize = 8;
-
-// How many bytes the length of a chunk has; the terminator is one.
-const CHUNK_LENGTH_SIZE: usize = 4;
-
 // How many bytes come before the data of the first chunk.
 const CHUNK_START: usize = TOTAL_SIZE + CHUNK_LENGTH_SIZE;
-
-// The most bytes of data that a chunk has which is written at once.
-const LONGEST_CHUNK: usize = 65_535;
 
 // How many bytes of data the value has whose total is at the front of these bytes, if it is whole in one chunk, or in none. `None`
 // if it isn't, or if the total isn't the number of its bytes.
@@ -84,7 +76,7 @@ fn one_chunk(total: u64, bytes: &[u8]) -> Option<usize>
     ensures { MatchOption result ((n : ℕ) → HasOneChunk bytes.now n → ⊥) (λ n. HasOneChunk bytes.now n) }
 {
     let n = LittleEndian::read_u32(&bytes[TOTAL_SIZE..]) as usize;
-    if n > LONGEST_CHUNK || (total != n as u64 && total != UNKNOWN_TOTAL) {
+    if n > LONGEST_DATA || (total != n as u64 && total != UNKNOWN_TOTAL) {
         return None;
     }
     if n == 0 {
@@ -112,38 +104,6 @@ fn chunk_end(n: usize) -> usize
     CHUNK_START + n + CHUNK_LENGTH_SIZE
 }
 
-// Writes the field of a value of this content, which is NULL or in one chunk at most, as `write_short` does that of a short one.
-#[inline(always)]
-fn write_one_chunk(content: Content, bytes: &[u8], to: &mut [u8]) -> Option<Span>
-    requires room { VALUE_ROOM ≤ length to.old }
-    ensures cell { LongWritten (conversion_of content) Reach.Chunked bytes.now (length to.old + 1) to.new result }
-{
-    if bytes.len() < CHUNK_START {
-        return None;
-    }
-    let total = LittleEndian::read_u64(bytes);
-    if total == NULL_TOTAL {
-        let made = write_null(0, false, to);
-        return Some(Span {
-            used: TOTAL_SIZE,
-            made,
-        });
-    }
-    let Some(n) = one_chunk(total, bytes) else {
-        return None;
-    };
-    if to.len() < field_room(content, n) {
-        return None;
-    }
-    let Some(made) = write_field(content, &bytes[CHUNK_START..], n, to) else {
-        return None;
-    };
-    Some(Span {
-        used: chunk_end(n),
-        made,
-    })
-}
-
 // What was written of a cell, if any of its bytes were used.
 #[inline(always)]
 fn some_written(written: Span) -> Option<Span>
@@ -155,20 +115,42 @@ fn some_written(written: Span) -> Option<Span>
     Some(written)
 }
 
-// Writes as `write_one_chunk` does, and uses no byte where that is `None`: a span comes in registers, an option of one in memory.
+// Writes the field of a value of this content, which is NULL or in chunks that each have a text of their own, as `write_short` does
+// that of a short one, and uses no byte where that is `None`: a span comes in registers, an option of one in memory.
 #[inline(never)]
 fn write_apart(content: Content, bytes: &[u8], to: &mut [u8]) -> Span
     requires room { VALUE_ROOM ≤ length to.old }
     ensures cell { LongWritten (conversion_of content) Reach.Chunked bytes.now (length to.old + 1)
         to.new (if result.used == 0 then None else Some result) }
 {
-    match write_one_chunk(content, bytes, to) {
-        Some(written) => written,
-        None => Span { used: 0, made: 0 },
+    let nothing = Span { used: 0, made: 0 };
+    if bytes.len() < CHUNK_START {
+        return nothing;
+    }
+    let total = LittleEndian::read_u64(bytes);
+    if total == NULL_TOTAL {
+        let made = write_null(0, false, to);
+        return Span {
+            used: TOTAL_SIZE,
+            made,
+        };
+    }
+    let Some(n) = one_chunk(total, bytes) else {
+        return write_chunks(content, bytes, to);
+    };
+    if to.len() < field_room(content, n) {
+        return nothing;
+    }
+    let Some(made) = write_field(content, &bytes[CHUNK_START..], n, to) else {
+        return nothing;
+    };
+    Span {
+        used: chunk_end(n),
+        made,
     }
 }
 
-// Writes as `write_one_chunk` does, by code that isn't inlined.
+// Writes as `write_apart` does.
 #[inline(always)]
 fn write_chunked(content: Content, bytes: &[u8], to: &mut [u8]) -> Option<Span>
     requires room { VALUE_ROOM ≤ length to.old }
@@ -197,7 +179,8 @@ pub enum Left {
     Cut,
     /// It is of a scalar kind, and its value or the length before it is refused.
     Refused(ValueFault),
-    /// It is a long value of this content, which isn't whole, is no text or in several chunks, or may want more room.
+    /// It is a long value of this content, which isn't whole, is no text, has a chunk that ends within a character, or may want
+    /// more room.
     Long(Content, Reach),
 }
 
@@ -359,8 +342,7 @@ fn write_int4_at(kind: &Kind, start: usize, bytes: &[u8], to: &mut [u8]) -> Span
     requires number { (is_int4 kind.now ≡ true) × (value_length kind.now bytes.now ≡ 4) }
     requires start { (start ≡ value_start kind.now) × (start + 4 ≤ length bytes.now) }
     requires room { NUMBER_ROOM ≤ length to.old }
-    ensures used { result.used ≡ start + 4 }
-    ensures made { result.made ≤ 11 }
+    ensures short { (result.used ≡ start + 4) × (result.made ≤ 11) }
     ensures whole { result.used ≡ whole_size kind.now bytes.now }
     ensures field { (charset : Charset) →
         WritesField charset kind.now (take result.used bytes.now) (take result.made to.new) }

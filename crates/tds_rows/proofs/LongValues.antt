@@ -5,6 +5,7 @@ use Rattle.tds_rows.proofs.Words.{PayloadView}
 use Rattle.tds_rows.proofs.Words.{Conversion, is_quoted, after_comma, SinkView, Puts, held, CellPart, cell, PutsField, cell_so_far, ending, opening}
 use Rattle.tds_rows.proofs.Words.{◌≢◌, ◌+◌, ChunkLength, ◌⊎◌, suc, true, false, refl, subst, append_assoc, Some, BadText, Spelt, BeginsData, is_fit}
 use Rattle.tds_rows.proofs.Words.{open_field, added_text, WritesPrefix}
+use Rattle.tds_cells.proofs.SeveralChunks.{emit_none}
 use Rattle.tds_rows.proofs.Numbers.{Next, short_left, chunk_end, chunk_unfit, chunk_left}
 use Rattle.tds_rows.proofs.Paths.{At, Path, StopsEnding, StopsField, path_both, path_of, path_none, path_stops, over}
 use Rattle.tds_cells.proofs.RowTexts.{line_grows, after_append}
@@ -291,20 +292,11 @@ module _ (column : ℕ) (c : Conversion) where
 
 -- ---- no content
 
-pub rest_none : (c : Conversion) → N.conversion_rest c [] ≡ []
-rest_none c = grind (arith, N.drop-nil)
-
-emit_none : (c : Conversion) → N.emit (N.conversion_rest c) (N.conversion_text c) [] ≡ []
-emit_none c = grind (arith, N.hex-nil, N.text_nil)
-
 open_none : (c : Conversion) → opening (is_quoted c) ≡ open_field c []
 open_none N.HexDigits = sym refl ∙ ap (λ l. N.binary_mark ++ l) (sym (emit_none N.HexDigits))
 open_none N.Utf16Text = ap (λ l. N.quote ∷ l) (sym (emit_none N.Utf16Text))
 open_none N.Windows1252Text = cc
 open_none N.Utf8Text = grind arith
-
-pub none_begins : (c : Conversion) → BeginsData c []
-none_begins c = grind arith
 
 -- ---- parts of a field, one after the other
 

@@ -161,9 +161,8 @@ pub(crate) fn write_far_alone(
     })
 }
 
-/// Writes the cells of the next columns of a row, after its first `column` ones, one after another, as far as they
-/// are whole in these bytes, aren't in several chunks and have room. `ends` says that the last of these columns is the row's
-/// last.
+/// Writes the cells of the next columns of a row, after its first `column` ones, one after another, as far as they are whole in
+/// these bytes and have room. `ends` says that the last of these columns is the row's last.
 #[inline(never)]
 pub(crate) fn run_formats(
     formats: &[CellFormat],
@@ -209,8 +208,8 @@ pub(crate) fn run_row<const COUNTED: bool>(
     requires numbers { AreNumbers COUNTED formats.now (length bytes.now - from.used) (length to.old - from.made) }
     ensures kept { take from.made to.new ≡ take from.made to.old }
     ensures refused { IfNone result (RefusesRow formats.now (drop from.used bytes.now)) }
-    ensures used { IfSome result (λ run. (from.used ≤ run.used) × (run.used < length bytes.now)) }
-    ensures made { IfSome result (λ run. (from.made ≤ run.made) × (run.made ≤ length to.old)) }
+    ensures within { IfSome result (λ run. (from.used ≤ run.used) × (run.used < length bytes.now)
+        × (from.made ≤ run.made) × (run.made ≤ length to.old)) }
     ensures row { IfSome result (λ run. (run.cells ≡ length formats.now) × ((charset : Charset) →
         RunsFormats charset formats.now 0 true (drop from.used bytes.now) (length to.old - from.made)
         (drop from.made to.new) (run_since from run))) }

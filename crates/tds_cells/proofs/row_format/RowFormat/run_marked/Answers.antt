@@ -32,7 +32,7 @@ loop-to-preserved g c =
       clear = grind arith;
       writes = λ columns knows ahead.
           let x = l.invariant.writes columns knows ahead in
-          let clear = runs_clear (λ k least most. end.ensures.clear k least (omega (arith, within))) (ran.ensures.cells columns knows x.ahead) in
+          let clear = runs_clear (λ k least most. end.ensures.ends.0 k least (omega (arith, within))) (ran.ensures.cells columns knows x.ahead) in
           runs_more _ _ _ _ _ _ _ _ _ l.invariant.made some x clear;
     }
 
@@ -51,4 +51,4 @@ returns-then-cells-eq0-clause-ends g c =
     let end = c.clear_end-end.ensures in
     let before : l.at.column < c.clear_end-end.result = omega arith in
     let run = rw room at (rw (N.all_after _ l.used) at (ran.ends c.if-cells-eq0.true before)) in
-    rw (ran.within.stays c.if-cells-eq0.true) (ends_clear _ (N.bit _) _ _ _ (end.clear _ (omega arith) before) run)
+    rw (ran.within.stays c.if-cells-eq0.true) (ends_clear _ (N.bit _) _ _ _ (end.ends.0 _ (omega arith) before) run)

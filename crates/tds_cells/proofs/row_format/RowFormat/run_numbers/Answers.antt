@@ -22,7 +22,7 @@ loop-used-preserved g c =
       ran = known_ran (λ walk. row_begun {start = N.place walk 0} c.requires.some (omega arith) (grind arith)
           (grind (arith, place_known))
           (row_far row_format c.row-row.result.now run c.run_row.new.to c.requires.all c.requires.some c.row-row.ensures.row whole c.run_row.ensures.kept
-          (search (arith, N.rules)) (done.used.0, done.made.0) (done.row.1 row_format.charset) (ran_at l.invariant.ran walk)));
+          (search (arith, N.rules)) (done.within.0, done.within.2) (done.row.1 row_format.charset) (ran_at l.invariant.ran walk)));
     }
 
 pub returns-in_default-run_row-clause-rows : goal.returns-in_default-run_row-clause-rows
@@ -39,4 +39,4 @@ returns-then-not-begins_row-clause-rows g c =
     let whole : run.cells ≡ row_format.count = done.row.0 ∙ all in
     rw (c.ended.ensures, all) (known_ran (λ walk.
     row_far row_format c.row-row.result.now run c.run_row.new.to c.requires.all c.requires.some c.row-row.ensures.row whole c.run_row.ensures.kept
-    (search (arith, N.rules)) (done.used.0, done.made.0) (done.row.1 row_format.charset) (ran_at l.invariant.ran walk)))
+    (search (arith, N.rules)) (done.within.0, done.within.2) (done.row.1 row_format.charset) (ran_at l.invariant.ran walk)))

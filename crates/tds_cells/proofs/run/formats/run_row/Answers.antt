@@ -35,16 +35,13 @@ returns-clause-row g c =
     end.ensures.text in
     (all, λ charset. fields_run _ _ _ some (wrote charset) (omega arith) (grind (arith, N.eq-eqb)))
 
-pub returns-clause-used : goal.returns-clause-used
-returns-clause-used g c = (c.write_numbers-run.ensures.begun.0, c.write_numbers-run.ensures.left)
-
-pub returns-clause-made : goal.returns-clause-made
-returns-clause-made g c =
+pub returns-clause-within : goal.returns-clause-within
+returns-clause-within g c =
     let run = c.write_numbers-run in
     let end = c.write_line_end-made in
     let x = ended_run c.args.from.made end.result run.result.made run.new.to end.new.to _ (omega arith)
     (run.ensures.fields Windows1252) run.ensures.begun.1 end.ensures.most end.auto.to end.ensures.text in
-    (x.0.0, omega arith)
+    (run.ensures.begun.0, run.ensures.left, x.0.0, omega arith)
 
 pub returns-then-run-formats-clause-refused : goal.returns-then-run-formats-clause-refused
 returns-then-run-formats-clause-refused g c =

@@ -1,6 +1,7 @@
 use Rattle.tds_rows.proofs.cell.streamed.LongValue.chunks.Goals as goal
 use Rattle.tds_rows.proofs.Words.{◌∙◌, arith, refl, rules, sym, MatchResult-weaker, passed}
-use Rattle.tds_rows.proofs.LongValues.{chunk_path, chunks_end_stops, chunks_whole, streamed_more, streamed_none, reading_stops, rest_none, chunk_holds}
+use Rattle.tds_cells.proofs.SeveralChunks.{rest_none}
+use Rattle.tds_rows.proofs.LongValues.{chunk_path, chunks_end_stops, chunks_whole, streamed_more, streamed_none, reading_stops, chunk_holds}
 use Rattle.tds_rows.proofs.LongValues.{filling_stops}
 use Rattle.tds_rows.proofs.Numbers.{chunk_stops, length_blames, read_stops, same_failures, stops_after}
 use Rattle.tds_rows.proofs.ChunkRuns.{run_at, streamed_run}

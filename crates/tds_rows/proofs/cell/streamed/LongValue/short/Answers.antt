@@ -1,7 +1,8 @@
 use Rattle.tds_rows.proofs.cell.streamed.LongValue.short.Goals as goal
 use Rattle.tds_rows.proofs.Words.{◌∙◌, ◌<◌, ◌++◌, [], arith, refl, sym, MatchResult-weaker, passed}
 use Rattle.tds_rows.proofs.Numbers.{length_blames, read_stops, short_none, short_start, short_stops}
-use Rattle.tds_rows.proofs.LongValues.{empty_puts, empty_stops, field_puts, next_breaks, next_path, none_begins, null_puts, reading_stops, rest_none}
+use Rattle.tds_cells.proofs.SeveralChunks.{none_begins, rest_none}
+use Rattle.tds_rows.proofs.LongValues.{empty_puts, empty_stops, field_puts, next_breaks, next_path, null_puts, reading_stops}
 use Rattle.tds_rows.proofs.LongValues.{short_end_stops, short_open, short_text, short_whole, filling_stops, short_holds}
 use Rattle.tds_rows.proofs.Paths.{path_stops}
 

@@ -1,5 +1,5 @@
 use Rattle.tds_cells.proofs as N
-use N.whole.write_one_chunk.Goals as goal
+use N.whole.write_apart.Goals as goal
 use N.{ap, arith, rules}
 
 pub returns-then-total : goal.returns-then-total
@@ -14,10 +14,10 @@ returns-then-total c = record {
 
 pub returns : goal.returns
 returns c = record {
-  cell = (
-    search (arith, rules),
+  cell = rw (N.ChunkedCells.end_some c.in-Some.n c.chunk_end.result c.chunk_end.ensures) ((
+    search (arith, rules, N.ChunkedCells.one_chunk_size),
     λ column last.
         let gives = rw (N.all_after c.args.bytes.now 12) at c.in-Some-write_field.ensures.gives in
         rw c.chunk_end.ensures (grind (arith, N.ChunkedCells.chunked_value)),
-  );
+  ));
 }
