@@ -6,7 +6,7 @@ use Rattle.tds_rows.proofs.LongValues.{chunk_holds, content_spelt, text_more}
 use Rattle.tds_rows.proofs.JoinedPieces.{piece_added}
 use Rattle.tds_rows.proofs.Paths.{At, over, path_both}
 use Rattle.tds_rows.proofs.LongValues.{Streamed}
-use Rattle.tds_rows.specs.ChunkRuns.{ChunksWritten, HasChunk, RunsChunks}
+use Rattle.tds_rows.specs.ChunkRuns.{ChunksWritten, RunsChunks}
 use Rattle.tds_cells.proofs.GrammarTexts.{writes_both, writes_none}
 
 module _ (c : Conversion) (column : ℕ) (last : Bool) (total : Option ℕ) where
@@ -51,6 +51,13 @@ module _ (c : Conversion) (column : ℕ) (last : Bool) (total : Option ℕ) wher
           kept_is = rw regroup at kept_is;
           writes = rw (added_is, ← regroup) (writes_both x.writes one);
         }
+
+-- At a place of the bytes a chunk of this many bytes lies whole, which is neither the terminator nor passes the total after so many bytes of data.
+pub record HasChunk (bytes : List ℕ) (at : ℕ) (total : Option ℕ) (sum n : ℕ) : Type 0 where
+  pub some : 0 < n
+  pub whole : at + 4 + n ≤ length bytes
+  pub number : N.little (take 4 (drop at bytes)) ≡ n
+  pub fits : N.within_total total (sum + n) ≡ true
 
 -- the bytes of the next chunk
 pub next_bytes : (bytes : List ℕ) (at n : ℕ) → take (at + (4 + n)) bytes ≡ take at bytes ++ (take 4 (drop at bytes) ++ take n (drop (at + 4) bytes))

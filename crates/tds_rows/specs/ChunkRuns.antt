@@ -1,17 +1,9 @@
 -- Chunks of a long value whose bytes lie together.
-use Rattle.std.specs.Prelude.{◌≡◌, ℕ, ◌+◌, ◌<◌, ◌≤◌, Bool, true, List, ◌++◌, length, take, drop, Option}
-use Rattle.tds_values.specs.Numbers.{little}
+use Rattle.std.specs.Prelude.{◌≡◌, ℕ, Bool, List, ◌++◌, length, Option}
 use Rattle.tds_text.specs.Conversion.{BeginsData, Conversion, Suits, conversion_rest}
-use Rattle.tds_cells.specs.Cells.{ChunkLength, cell, within_total}
+use Rattle.tds_cells.specs.Cells.{ChunkLength, cell}
 use Rattle.tds_cells.specs.CellTexts.{cell_so_far}
 use Rattle.tds_cells.specs.Runs.{Writes}
-
--- At a place of the bytes a chunk of this many bytes lies whole, which is neither the terminator nor passes the total after so many bytes of data.
-pub record HasChunk (bytes : List ℕ) (at : ℕ) (total : Option ℕ) (sum n : ℕ) : Type 0 where
-  pub some : 0 < n
-  pub whole : at + 4 + n ≤ length bytes
-  pub number : little (take 4 (drop at bytes)) ≡ n
-  pub fits : within_total total (sum + n) ≡ true
 
 -- After some content these bytes are chunks of so many bytes of data, and this is their text; what is withheld then is the rest of all the data.
 pub record ChunksWritten (c : Conversion) (column : ℕ) (last : Bool) (total : Option ℕ) (content kept : List ℕ) (n : ℕ) (bytes text : List ℕ) : Type 0

@@ -121,8 +121,8 @@ impl<'r, 't, 'p, 's, 'c, R: Read, W: Write> Rows<'r, 't, 'p, 's, 'c, R, W> {
     /// and takes the token byte after each but the last. It reads nothing and delivers nothing. Of ROWs it takes none.
     #[inline(always)]
     pub(crate) fn put_whole_rows<M: Marks>(&mut self) -> PutRows
-        requires in_row { AwaitsRows self.old.payload.now self.old.sink.now self.old.small.now }
-        requires knows { KnowsSome self.old.row_format.now }
+        requires in_row { AwaitsRows self.old.payload.now self.old.sink.now self.old.small.now
+            × KnowsSome self.old.row_format.now }
         ensures stays { LeavesRows self.old self.new (Ok result) }
         ensures few { self.old.payload.now.place + result.rows ≤ self.new.payload.now.place }
         ensures none { result.last ≡ true → BeginNoRow M.token (buffered self.new.payload.now) }

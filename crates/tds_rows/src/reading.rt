@@ -86,8 +86,7 @@ fn rows_in<'a, M: Marks, R: Read, W: Write>(
     sink: &mut Sink<W>,
 ) -> Result<u64, Stop>
     requires learnt { Learns (columns_of columns.bytes.now) charset formats.now learnt }
-    requires rows { AwaitsRows payload.old sink.old small.old }
-    requires fits { 8192 ≤ (M.space marks.old).room }
+    requires rows { AwaitsRows payload.old sink.old small.old × (8192 ≤ (M.space marks.old).room) }
     ensures leaves { LeavesLent payload.old payload.new sink.old sink.new small.old small.new result }
     ensures room { KeepsRoom (M.space marks.old) (M.space marks.new) }
     ensures ends { IfOk result (λ count. EndsRows M.token payload.old payload.new count) }
@@ -117,8 +116,7 @@ fn rows_by<const N: usize, M: Marks, R: Read, W: Write>(
     sink: &mut Sink<W>,
 ) -> Result<u64, Stop>
     requires few { N ≤ 1024 }
-    requires rows { AwaitsRows payload.old sink.old small.old }
-    requires fits { 8192 ≤ (M.space marks.old).room }
+    requires rows { AwaitsRows payload.old sink.old small.old × (8192 ≤ (M.space marks.old).room) }
     ensures leaves { LeavesLent payload.old payload.new sink.old sink.new small.old small.new result }
     ensures room { KeepsRoom (M.space marks.old) (M.space marks.new) }
     ensures ends { IfOk result (λ count. EndsRows M.token payload.old payload.new count) }
@@ -142,8 +140,7 @@ fn read_marked<M: Marks, R: Read, W: Write>(
     small: &mut Area,
     sink: &mut Sink<W>,
 ) -> Result<u64, Stop>
-    requires rows { AwaitsRows payload.old sink.old small.old }
-    requires fits { 8192 ≤ (M.space marks.old).room }
+    requires rows { AwaitsRows payload.old sink.old small.old × (8192 ≤ (M.space marks.old).room) }
     ensures leaves { LeavesLent payload.old payload.new sink.old sink.new small.old small.new result }
     ensures room { KeepsRoom (M.space marks.old) (M.space marks.new) }
     ensures ends { IfOk result (λ count. EndsRows M.token payload.old payload.new count) }
@@ -244,8 +241,7 @@ pub fn read_nbc_rows<R: Read, W: Write>(
     small: &mut Area,
     sink: &mut Sink<W>,
 ) -> Result<u64, Stop>
-    requires rows { AwaitsRows payload.old sink.old small.old }
-    requires fits { 8192 ≤ bitmap.old.room }
+    requires rows { AwaitsRows payload.old sink.old small.old × (8192 ≤ bitmap.old.room) }
     ensures leaves { LeavesLent payload.old payload.new sink.old sink.new small.old small.new result }
     ensures bitmap { KeepsRoom bitmap.old bitmap.new }
     ensures ends { IfOk result (λ count. EndsRows NbcRow payload.old payload.new count) }

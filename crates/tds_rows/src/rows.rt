@@ -154,9 +154,8 @@ impl<'r, 't, 'p, 's, 'c, R: Read, W: Write> Rows<'r, 't, 'p, 's, 'c, R, W> {
 }
 
 impl<'r, 't, 'p, 's, 'c, R: Read, W: Write> Rows<'r, 't, 'p, 's, 'c, R, W> {
-    // Reads the next cells, as many as are NULL by a bit or whole in the packet, aren't in several chunks and have room in the
-    // block, over the ends of ROWs, puts their text where it waits, and steps over them. Returns how many rows it began. It reads
-    // nothing and delivers nothing.
+    // Reads the next cells, as many as are NULL by a bit or whole in the packet and have room in the block, over the ends of ROWs,
+    // puts their text where it waits, and steps over them. Returns how many rows it began. It reads nothing and delivers nothing.
     fn put_within(&mut self, at: &mut Cursor<'c>, nulls: Nulls) -> u64
         requires in_row { AwaitsRows self.old.payload.now self.old.sink.now self.old.small.now }
         requires some { 0 < self.old.row_format.now.count }
@@ -182,8 +181,8 @@ impl<'r, 't, 'p, 's, 'c, R: Read, W: Write> Rows<'r, 't, 'p, 's, 'c, R, W> {
         run.rows as u64
     }
 
-    // Reads the next cells of the row, as many as are NULL by a bit or whole in the packet, aren't in several chunks and have room
-    // in a small text, puts that text over the end of the block, and steps over them. Begins no row.
+    // Reads the next cells of the row, as many as are NULL by a bit or whole in the packet and have room in a small text, puts that
+    // text over the end of the block, and steps over them. Begins no row.
     fn put_via_scratch(&mut self, at: &mut Cursor<'c>, nulls: Nulls) -> Result<u64, Stop>
         requires in_row { AwaitsRows self.old.payload.now self.old.sink.now self.old.small.now }
         requires some { 0 < self.old.row_format.now.count }
@@ -198,8 +197,8 @@ impl<'r, 't, 'p, 's, 'c, R: Read, W: Write> Rows<'r, 't, 'p, 's, 'c, R, W> {
         Ok(0)
     }
 
-    /// Reads the next cells, as many as are NULL by a bit or whole in the packet, aren't in several chunks and have room, puts their
-    /// text, and steps over them. Returns how many rows it began.
+    /// Reads the next cells, as many as are NULL by a bit or whole in the packet and have room, puts their text, and steps over
+    /// them. Returns how many rows it began.
     #[inline(always)]
     pub(crate) fn put_run(&mut self, at: &mut Cursor<'c>, nulls: Nulls) -> Result<u64, Stop>
         requires in_row { AwaitsRows self.old.payload.now self.old.sink.now self.old.small.now }
@@ -234,8 +233,8 @@ impl<'r, 't, 'p, 's, 'c, R: Read, W: Write> Rows<'r, 't, 'p, 's, 'c, R, W> {
     /// many rows it read.
     #[inline(always)]
     pub(crate) fn row_by<M: Marks>(&mut self, marks: &mut M) -> Result<u64, Stop>
-        requires in_row { AwaitsRows self.old.payload.now self.old.sink.now self.old.small.now }
-        requires knows { KnowsSome self.old.row_format.now }
+        requires in_row { AwaitsRows self.old.payload.now self.old.sink.now self.old.small.now
+            × KnowsSome self.old.row_format.now }
         requires awaits { AwaitsBitmap (M.space marks.old) }
         ensures leaves { LeavesRows self.old self.new result }
         ensures room { KeepsRoom (M.space marks.old) (M.space marks.new) }
@@ -267,8 +266,8 @@ impl<'r, 't, 'p, 's, 'c, R: Read, W: Write> Rows<'r, 't, 'p, 's, 'c, R, W> {
     /// how many they are.
     #[inline(always)]
     pub(crate) fn rows<M: Marks>(&mut self, marks: &mut M) -> Result<u64, Stop>
-        requires in_row { AwaitsRows self.old.payload.now self.old.sink.now self.old.small.now }
-        requires knows { KnowsSome self.old.row_format.now }
+        requires in_row { AwaitsRows self.old.payload.now self.old.sink.now self.old.small.now
+            × KnowsSome self.old.row_format.now }
         requires room { 8192 ≤ (M.space marks.old).room }
         ensures leaves { LeavesRows self.old self.new result }
         ensures room { KeepsRoom (M.space marks.old) (M.space marks.new) }

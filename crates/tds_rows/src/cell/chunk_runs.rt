@@ -1,6 +1,8 @@
 // Chunks of a long value that lie whole in the packet, one after another (MS-TDS, Partially Length-prefixed Bytes).
-ghost use Rattle.std.specs.Prelude.{◌≡◌, ◌+◌, ◌^◌, ◌<◌, ◌≤◌, length, take};
-ghost use Rattle.tds_rows.specs.ChunkRuns.{HasChunk, RunsChunks};
+ghost use Rattle.std.specs.Prelude.{◌≡◌, ◌+◌, ◌^◌, ◌<◌, ◌≤◌, drop, length, take, true};
+ghost use Rattle.tds_cells.specs.Cells.{within_total};
+ghost use Rattle.tds_rows.specs.ChunkRuns.{RunsChunks};
+ghost use Rattle.tds_values.specs.Numbers.{little};
 
 use byteorder::{ByteOrder, LittleEndian};
 use tds_csv::Joiner;
@@ -24,7 +26,8 @@ pub(crate) fn next_chunk(bytes: &[u8], at: usize, total: Option<u64>, sum: u64) 
     requires at { at ≤ length bytes.now }
     requires few { sum + LONGEST_CHUNK < 2 ^ 64 }
     ensures few { result ≤ LONGEST_CHUNK }
-    ensures chunk { 0 < result → HasChunk bytes.now at total sum result }
+    ensures chunk { 0 < result → (at + 4 + result ≤ length bytes.now) × (little (take 4 (drop at bytes.now)) ≡ result)
+        × (within_total total (sum + result) ≡ true) }
 {
     if bytes.len() - at < 4 {
         return 0;

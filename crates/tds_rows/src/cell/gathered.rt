@@ -77,8 +77,7 @@ fn gather_counted<R: Read>(
     requires going { IsGoing payload.old }
     requires small { (small.old.bytes ≡ []) × (18 ≤ small.old.room) }
     requires valid { IsTrue (kinds.is_valid kind.now) }
-    requires scalar { IsTrue (kinds.is_scalar kind.now) }
-    requires counted { kinds.fixed_length kind.now ≡ None }
+    requires counted { IsTrue (kinds.is_scalar kind.now) × (kinds.fixed_length kind.now ≡ None) }
     ensures leaves { LeavesGathering payload.old payload.new small.old small.new result }
     ensures cell { CellGathered R.remaining kind.now (ScalarLength kind.now) column
         payload.old payload.new small.new.bytes result }

@@ -18,5 +18,5 @@ pub returns-clause-cell : goal.returns-clause-cell
 returns-clause-cell g c =
     let taken = length_taken c.requires.small.0 (ap (λ l. get_or l 0 0) (sym c.bytes.ensures.value)) c.in_ok-read_into.ensures.gives in
     counted_taken _ _ _ _ _ _ _ _ _
-    c.requires.counted (search rules) taken.0 c.if-n-eq0.false (sym c.length_allowed.ensures ∙ c.if-not-length_allowed.false) taken.1
+    c.requires.counted.1 (search rules) taken.0 c.if-n-eq0.false (sym c.length_allowed.ensures ∙ c.if-not-length_allowed.false) taken.1
     c.in_ok-read_into.ensures.place c.in_ok-read_into.ensures.payload.going c.read_into-2.ensures.place c.read_into-2.ensures.gives

@@ -24,6 +24,6 @@ returns-then-TOKEN-clause-rows g c = λ columns knows. record {
   text = [];
   wrote = (refl, refl);
   takes = N.Takes-none (N.seen g.R.Read.remaining c.args.self.now.payload.now) 0;
-  puts = N.Puts-none (N.held g.W.Write.contents c.args.self.now.sink.now) c.requires.in_row.sink.ready.2;
+  puts = N.Puts-none (N.held g.W.Write.contents c.args.self.now.sink.now) c.requires.in_row.0.sink.ready.2;
   place_is = sym (N.add-zero _);
 }

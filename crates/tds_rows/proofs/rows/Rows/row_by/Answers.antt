@@ -11,15 +11,15 @@ returns-in_err-begin-clause-rows g c = λ columns knows.
     let old = c.args.self.now in
     N.passed_on _ _ (λ r. N.SomeRead g.R.Read.remaining g.W.Write.contents g.M.Marks.token old.row_format.now.charset columns old.payload.now
     c.begin.new.payload old.sink.now old.sink.now r) c.from_residual.ensures.1
-    (bitmap_fails _ _ _ _ g.M.Marks.token _ _ c.requires.in_row.sink knows c.requires.knows.2
+    (bitmap_fails _ _ _ _ g.M.Marks.token _ _ c.requires.in_row.0.sink knows c.requires.in_row.1.2
     (rw c.count.ensures at c.in_err-begin.ensures.bitmap))
 
 pub loop-begun-init : goal.loop-begun-init
 loop-begun-init g c =
-    let row = c.requires.in_row in
+    let row = c.requires.in_row.0 in
     let payload = c.in_ok-begin.ensures.payload in
     let is = token_is g.M.Marks.token c.nulls-nulls.result _ c.nulls-nulls.ensures in
-    let first = stands_first g.W.Write.contents c.nulls-nulls.result _ (rw is at c.nulls-nulls.ensures) c.requires.knows row.sink
+    let first = stands_first g.W.Write.contents c.nulls-nulls.result _ (rw is at c.nulls-nulls.ensures) c.requires.in_row.1 row.sink
     (record {
       in_row = record { payload = record { sound = payload.sound; going = payload.going }; sink = row.sink; room = row.room };
       same = (refl, refl, refl, refl);
@@ -28,7 +28,7 @@ loop-begun-init g c =
       small = record { room = refl; bound = omega arith };
     })
     refl c.start-at.ensures.first c.start-at.ensures.ahead (rw (is, c.count.ensures) at c.in_ok-begin.ensures.bitmap) in
-    record { knows = c.requires.knows; covers = first.0; few = omega (arith, first.1); reads = first.2 }
+    record { knows = c.requires.in_row.1; covers = first.0; few = omega (arith, first.1); reads = first.2 }
 
 pub returns-in_err-begun-clause-rows : goal.returns-in_err-begun-clause-rows
 returns-in_err-begun-clause-rows g c = λ columns knows.
@@ -88,7 +88,7 @@ loop-begun-smaller g c =
     let l = c.loop-begun in
     let run = c.in_ok-begun.ensures in
     let done = c.in_ok-put_next.ensures in
-    let further = next_further _ l.invariant.reads run c.requires.knows (next_put g c) in
+    let further = next_further _ l.invariant.reads run c.requires.in_row.1 (next_put g c) in
     row_shrinks _ _ _ _ c.put_next.new.self.payload.now.place _ _ l.at.column c.in-Some.after.column
     (ap (λ r. r.now.count) (done.leaves.same.3 ∙ run.leaves.same.3)) (done.leaves.payload.same.3 ∙ run.leaves.payload.same.3)
     (omega (arith, done.leaves.payload.sound.wire)) (omega (arith, c.in-Some.ensures.within, ap (λ r. r.now.count) done.leaves.same.3))
@@ -100,7 +100,7 @@ loop-begun-preserved g c =
     let run = c.in_ok-begun.ensures in
     let done = c.in_ok-put_next.ensures in
     let same = sym (done.leaves.same.3 ∙ run.leaves.same.3) in
-    let further = next_further _ l.invariant.reads run c.requires.knows (next_put g c) in
+    let further = next_further _ l.invariant.reads run c.requires.in_row.1 (next_put g c) in
     record {
       knows = rw same at l.invariant.knows;
       covers = rw same at l.invariant.covers;

@@ -3,7 +3,7 @@ use Rattle.tds_rows.proofs.Words.{◌∙◌, arith, passed, refl, sym}
 use Rattle.tds_rows.proofs.NextSteps.{come_first, come_last, come_next, come_rows, come_stops, come_taken}
 
 pub loop-ended-init : goal.loop-ended-init
-loop-ended-init g c = record { knows = c.requires.knows; room = refl; few = omega arith; reads = come_first c.requires.in_row }
+loop-ended-init g c = record { knows = c.requires.in_row.1; room = refl; few = omega arith; reads = come_first c.requires.in_row.0 }
 
 pub returns-then-whole-clause-rows : goal.returns-then-whole-clause-rows
 returns-then-whole-clause-rows g c = λ columns knows.
