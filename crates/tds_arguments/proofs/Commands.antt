@@ -5,23 +5,22 @@ use Rattle.clap.specs.Simple.{Shape, app_of_fields, on_top}
 
 pub with_argument : {app : App} {rule : Rule} (old new : Command) (a : Arg) → IsCommand app old → N.IsArgument rule a → N.AddsArg old a new
     → IsCommand (N.with_rule app rule) new
-with_argument old new a is arg add = (add.shape arg.1 ∙ ap₂ N.with_rule is.0 arg.0, add.globals ∙ ap₂ (λ (x y : N.Bool). x || y) is.1 arg.1)
+with_argument = grind N.arith
 
 -- the same of a command that may be missing for want of memory
 pub argument_then : {E : Type 0} (made next : N.Result Command E) (a : Arg) (app : App) (rule : Rule) → IfOk made (IsCommand app) → N.IsArgument rule a
     → IfOk next (N.GainsArgument made a) → IfOk next (IsCommand (N.with_rule app rule))
-argument_then made next a app rule is arg = N.IfOk-weaker next _ _ (λ new g. with_argument g.0 new a (N.IfOk-at_ok (IsCommand app) g.1 is) arg g.2)
+argument_then made next a app rule is arg = grind (N.arith, with_argument)
 
 pub with_command : {app below : App} (old sub new : Command) → IsCommand app old → IsCommand below sub → N.AddsSubcommand old sub new
     → IsCommand (N.with_subcommand app below.top) new
-with_command old sub new is under add =
-    (add.shape under.1 ∙ ap₂ N.with_subcommand is.0 (cc), add.globals ∙ ap₂ (λ (x y : N.Bool). x || y) is.1 under.1)
+with_command = grind N.arith
 
 -- the same of texts, which the parser doesn't read
 pub told : {app : App} {fields : Command-F Command} (old new : Command) → out-Command new ≡ fields
     → app_of_fields fields ≡ app_of_fields (out-Command old)
     → fields.has_globals ≡ (out-Command old).has_globals → IsCommand app old → IsCommand app new
-told old new is same globals c = (ap app_of_fields is ∙ same ∙ c.0, ap (λ f. f.has_globals) is ∙ globals ∙ c.1)
+told = grind N.arith
 
 -- the same of a setting that the parser reads
 pub set : {V : Type 0} {app : App} (old new : Command) (value : V) (settle : V → Command-F Command → Command-F Command) (change : Shape → Shape)
@@ -29,11 +28,7 @@ pub set : {V : Type 0} {app : App} (old new : Command) (value : V) (settle : V �
     → ((fields : Command-F Command) → app_of_fields (settle value fields) ≡ on_top change (app_of_fields fields))
     → ((fields : Command-F Command) → (settle value fields).has_globals ≡ fields.has_globals)
     → IsCommand app old → IsCommand (on_top change app) new
-set old new value settle change is same globals c = (
-  ap app_of_fields is ∙ same (out-Command old) ∙ ap (on_top change) c.0,
-  ap (λ (f : Command-F Command). f.has_globals) is
-      ∙ globals (out-Command old) ∙ c.1,
-)
+set old new value settle change is same globals c = grind (N.arith, same)
 
 -- an argument that has to be given
 pub required : {rule : Rule} (old new : Arg) → new ≡ record old { required = true } → N.IsArgument rule old

@@ -30,25 +30,22 @@ without_memory arguments (Err usage) is = record {
 }
 
 or_true : (a b : Bool) → b ≡ true → (a || b) ≡ true
-or_true true b is = refl
-or_true N.false b is = is
+or_true = grind N.arith
 
 some_fault : (test : ErrorKind → Bool) (k : ErrorKind) (faults : List ErrorKind) → N.IsAmong k faults → test k ≡ true → N.list_any test faults ≡ true
 some_fault test k [] among is = absurd among
-some_fault test k (x ∷ xs) (inl same) is = ap (λ (b : Bool). b || N.list_any test xs) (N.sym (ap test same) ∙ is)
+some_fault test k (x ∷ xs) (inl same) is = grind N.arith
 some_fault test k (x ∷ xs) (inr among) is = or_true (test x) (N.list_any test xs) (some_fault test k xs among is)
 
 -- a fault of the arguments shows in what is answered
 at_fault : (k : ErrorKind) (faults : List ErrorKind) (usage : Usage) → N.IsAmong k faults → IsUsageOf k usage → IsUsageAt faults usage
 at_fault k faults N.OutOfMemory among of = tt
 at_fault k faults (Help text) among of = some_fault asks_for_help k faults among of
-at_fault k faults (N.Refused text) among of = inr (some_fault (λ fault. N.not (asks_for_help fault)) k faults among (rw of.0 refl))
+at_fault k faults (N.Refused text) among of = grind (N.arith, some_fault)
 
 -- without memory there is no other answer
 no_memory : (k : ErrorKind) (usage : Usage) → k ≡ kind.OutOfMemory → IsUsageOf k usage → usage ≡ N.OutOfMemory
-no_memory k N.OutOfMemory is of = refl
-no_memory k (Help text) is of = absurd (cc)
-no_memory k (N.Refused text) is of = absurd (of.1 is)
+no_memory = grind N.arith
 
 module _ (app : N.App) (arguments : List N.Text) (program : N.IsProgram app) where
   pub refused : (error : N.Error) (usage : Usage) → N.FailsBy {T = N.ArgMatches} (fault_of app arguments) (Err error) → IsUsageOf (N.kind_of error) usage
@@ -59,7 +56,7 @@ module _ (app : N.App) (arguments : List N.Text) (program : N.IsProgram app) whe
   refused error usage (inr among) of = record {
     app = app;
     is_program = program;
-    gives = (inr (λ job m. rw m.fits at among), at_fault (N.kind_of error) (fault_of app arguments) usage among of);
+    gives = grind (N.arith, at_fault);
   }
 
   -- arguments that fit and are refused for their numbers
@@ -75,7 +72,7 @@ module _ (app : N.App) (arguments : List N.Text) (program : N.IsProgram app) whe
       → N.Answers arguments answer
   found matches (Ok job) fits has range makes refusal err =
       let same = (has (N.both _ _ (is_known app program)).0).1 in
-      record { app = app; is_program = program; gives = record { fits = fits; makes = rw same at makes; in_range = range } }
+      grind N.arith
   found matches (Err usage) fits has range makes refusal (inl memory) =
       record { app = app; is_program = program; gives = (inl memory, fitting usage fits refusal) }
   found matches (Err usage) fits has range makes refusal (inr none) =

@@ -1,7 +1,6 @@
 use Rattle.tds_arguments.proofs as N
 use N.parsing.Given.number.Goals as goal
 use N.{◌≡◌, ◌≢◌, ◌==◌, arith}
-use Rattle.std.proofs.lemmas.Bool.Decides.{nat_tests}
 
 pub returns-in_default-clause-err : goal.returns-in_default-clause-err
 returns-in_default-clause-err g c =
