@@ -10,7 +10,7 @@ use N.LeastTypes.{least_type}
 use N.ResponseMeaning.{response_is_spelt}
 use N.ResponseLaws.{spelt_both, spelt_one, body_free, body_is_read, described_after-append, description_agrees, row_agrees}
 use N.ResponseLaws.{return_agrees, part_at, spelt_inside}
-use N.TokenLaws.{bare, bare_body, bare_fixed, is_bare, is_final-snoc}
+use N.TokenLaws.{bare, bare_body, bare_fixed, is_final-snoc}
 
 -- a row, and a return value, that isn't whole
 abbrev pub IsOpenRow : N.RowPart → Type 0

@@ -2,7 +2,7 @@
 use Rattle.tds_export.proofs as N
 use N.{AreBytes, Bool, Column, IsNext, List, None, Open, Part, Some, Token, [], arith, choose, codes, false, joined, length}
 use N.{length-append, map, response, text, true, ℕ, ◌*◌, ◌++◌, ◌+◌, ◌∷◌, ◌≡◌, ◌≤◌, ◌==◌}
-use N.ReadingGrows.{IsFresh, lead_cases}
+use N.ReadingGrows.{lead_cases}
 use N.FieldLengths.{long_length, long_more, open_length, open_more, read_short}
 use N.TokenLaws.{bare, bare_body, bare_fixed, begun_after, text_after-snoc}
 use N.ResponseLaws.{part_at}
