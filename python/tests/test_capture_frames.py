@@ -79,6 +79,8 @@ WRAPPED: dict[str, tuple[int, Callable[[bytes], bytes]]] = {
 }
 UNREAD: dict[str, tuple[int, Callable[[bytes], bytes]]] = {
     "link type 127": (127, lambda it: it),
+    "protocol 0x002d of PPP": (9, lambda it: b"\xFF\x03\x00\x2D" + it),
+    "protocol 0x003d of PPP": (50, lambda it: b"\x3D\xC0" + it),
     "a fragment of IP": (RAW, lambda it: it[:6] + b"\x20\x00" + it[8:]),
     "a frame that is too short for its headers": (RAW, lambda it: it[:30]),
     "a wrong header of TCP": (RAW, lambda it: it[:32] + b"\x10" + it[33:]),

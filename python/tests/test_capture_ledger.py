@@ -6,6 +6,7 @@ import struct
 import unittest
 from collections.abc import Iterable
 from dataclasses import replace
+from typing import Optional
 from unittest import mock
 
 from gavyreto.capturing import connections, endings, memory
@@ -133,6 +134,9 @@ class Shown(unittest.TestCase):
             with self.subTest(counted=counted, before=before):
                 came = read(pcapng(frames, counted, before))
                 self.assertEqual((came.answers, came.told), ([answer(1)], ["lost frames"] * is_told))
+        for lost, is_told in ((0, False), (3, True), (0xFFFF, False)):
+            came = read(pcapng(frames, b"", b"", lost))
+            self.assertEqual((came.answers, came.told), ([answer(1)], ["lost frames"] * is_told), lost)
 
     def test_a_copy_that_differs_of_what_was_acknowledged_before_it_came(self) -> None:
         """Which copy was received isn't known of a segment that comes after its acknowledgement, whatever an earlier one says behind it; of one
@@ -176,11 +180,14 @@ def block(kind: int, body: bytes) -> bytes:
     return struct.pack("<II", kind, length) + body + struct.pack("<I", length)
 
 
-def pcapng(frames: list[bytes], counted: bytes, before: bytes) -> bytes:
-    """A file of pcapng with options in its last packet, and with statistics."""
+def pcapng(frames: list[bytes], counted: bytes, before: bytes, lost: Optional[int] = None) -> bytes:
+    """A file of pcapng with options in its last packet, and with statistics; if frames are lost before the last one, of packets of the
+    older type, which count them."""
     data = block(0x0A0D0D0A, struct.pack("<IHHq", 0x1A2B3C4D, 1, 0, -1)) + block(1, struct.pack("<HHI", RAW, 0, 0))
     for frame in frames:
-        data += block(6, struct.pack("<IIIII", 0, 0, 0, len(frame), len(frame)) + frame + bytes(-len(frame) % 4) + (before if frame is frames[-1] else b""))
+        is_last = frame is frames[-1]
+        head = struct.pack("<IIIII", 0 if lost is None else lost * is_last << 16, 0, 0, len(frame), len(frame))
+        data += block(6 if lost is None else 2, head + frame + bytes(-len(frame) % 4) + (before if is_last else b""))
     return data + block(5, struct.pack("<III", 0, 0, 0) + counted)
 
 

@@ -18,7 +18,7 @@ SECTION, INTERFACE, OLD_PACKET, SIMPLE_PACKET, STATISTICS, PACKET = 0x0A0D0D0A, 
 RESOLUTION, OFFSET = 9, 14  # options of an interface: units of time in a second, seconds to add
 DROPPED_BEFORE = 4  # an option of a packet: frames that were lost before it (epb_dropcount)
 DROPPED = (5, 7)  # options of statistics: frames lost so far by the interface (isb_ifdrop) and by the system (isb_osdrop)
-UNKNOWN = (1 << 64) - 1  # a count that isn't known
+UNKNOWN, UNKNOWN_BEFORE = (1 << 64) - 1, (1 << 16) - 1  # counts that aren't known, the second before a packet of the older type
 MOST_OF_A_FRAME = 1 << 20  # bytes; a greater length is no length
 MOST_OF_A_BLOCK = 1 << 24
 BLOCK = 1 << 16  # bytes that are read at once, at most
@@ -189,19 +189,20 @@ def _pcapng(source: Source, drops: Drops) -> Iterator[Frame]:
                 frame = _frame(order, kind, body, interfaces)
             except (struct.error, IndexError):
                 raise CutShort("the capture goes on with a block that is no frame") from None
-            if kind == PACKET:
-                _count_before(order, body, len(frame.data), drops)
+            _count_before(order, kind, body, len(frame.data), drops)
             yield frame
         elif kind == STATISTICS and len(body) >= 12:
             found = [struct.unpack(order + "Q", value)[0] for option, value in _options(order, body, 12) if option in DROPPED and len(value) == 8]
             drops.count(struct.unpack_from(order + "I", body)[0], sum(it for it in found if it != UNKNOWN))
 
 
-def _count_before(order: str, body: bytes, captured: int, drops: Drops) -> None:
+def _count_before(order: str, kind: int, body: bytes, captured: int, drops: Drops) -> None:
     """Counts the frames that were lost before one."""
-    at = 20 + captured + -captured % 4
-    if at < len(body):
-        for option, value in _options(order, body, at):
+    if kind == OLD_PACKET:
+        interface, lost = struct.unpack_from(order + "HH", body)
+        drops.add(interface, lost if lost != UNKNOWN_BEFORE else 0)
+    elif kind == PACKET:
+        for option, value in _options(order, body, 20 + captured + -captured % 4):
             if option == DROPPED_BEFORE and len(value) == 8:
                 drops.add(struct.unpack_from(order + "I", body)[0], struct.unpack(order + "Q", value)[0])
 

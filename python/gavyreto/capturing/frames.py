@@ -17,6 +17,7 @@ LOGICAL_LINK, PPP, COOKED, COOKED_2, LOOPBACK = 0x201, 0x202, 0x203, 0x204, 0x20
 # Types of Ethernet that carry no IP: ARP, RARP, AppleTalk, IPX, PPPoE's discovery, EAPOL, LLDP, slow protocols, PTP, wake on LAN, loopback.
 NO_IP = {0x0806, 0x8035, 0x809B, 0x80F3, 0x8137, 0x8138, 0x8863, 0x888E, 0x88CC, 0x8809, 0x88F7, 0x0842, 0x9000, 0x88E1, 0x8899}
 IN_PPP = {0x0021: IPV4, 0x0057: IPV6}
+OF_PPP = {0x002D, 0x002F, 0x003D, 0x00FB, 0x00FD}  # what may have IP in another form: compressed headers, fragments, compressed data
 MOST_LAYERS = 32  # headers of a frame, one after the other
 ETHERNET = 1  # the type of a link
 
@@ -76,6 +77,8 @@ def _ppp(cursor: Cursor) -> int:
     size = 1 if number & 1 else 2
     protocol = number if size == 1 else cursor.unpack(U16)[0]
     cursor.at += size
+    if protocol in OF_PPP:
+        raise Unread(f"protocol 0x{protocol:04x} of PPP")
     if protocol not in IN_PPP:
         raise Other
     return IN_PPP[protocol]
