@@ -221,6 +221,24 @@ class Descriptors(Live):
             self.assert_ends(came, 5, b"", "standard output: No space left on device")
 
 
+    def test_a_standard_input_that_does_not_block(self) -> None:
+        """Where it has nothing yet is no end of it: not of responses, nor of statements, nor of a recording."""
+        statements = ["query", "-S", "127.0.0.1,1", "-U", "reader", "--program", PROGRAM]
+        for words, data in (
+            (["columns"], ORDERED), (["adapt"], ORDERED), (statements, b""), ([*statements, "-o", "rows"], b"DELETE FROM orders WHERE"),
+            ([*statements, "--tables", "-", "-o", "out"], b"orders\ncust"), (["capture", "--program", PROGRAM, "-", "out"], ORDERED),
+        ):
+            source, target = os.pipe()
+            os.set_blocking(source, False)
+            os.write(target, data)
+            given: dict[str, Any] = started() | {"stdin": source}
+            came = subprocess.run([sys.executable, "-m", "gavyreto", *words], cwd=self.folder, capture_output=True, check=False, timeout=SECONDS, **given)
+            os.close(source)
+            os.close(target)
+            with self.subTest(words=words):
+                self.assertEqual((came.returncode, came.stderr), (5, b"standard input: nothing is there yet, and it doesn't block\n"))
+
+
 class SlowReaders(Live):
     def test_only_the_wait_for_the_server_counts(self) -> None:
         """A reader who takes longer over the rows than the server may be silent gets all of them."""

@@ -38,7 +38,7 @@ from gavyreto.capturing.keeping import Kept, Room
 from gavyreto.capturing.messages import is_header
 from gavyreto.capturing.progress import Progress
 from gavyreto.commands.common import (
-    SIGNALS, STANDARD_INPUT, Stopped, add_options_of_program, check_input, checked_program, command_for, folder_of_texts, line, needed, number_in, parser_of, put, say, tell,
+    SIGNALS, Input, Stopped, add_options_of_program, check_input, checked_program, command_for, folder_of_texts, line, number_in, parser_of, put, say, tell,
 )
 from gavyreto.payload import Ended
 from gavyreto.program import BAD_INPUT, FAILED, REFUSED, SERVER_ERROR, Ending, judged
@@ -168,8 +168,7 @@ def moment_of(time: int) -> Optional[str]:
 
 def capture(asked: argparse.Namespace) -> int:
     """Exports a capture or a dump, and returns the greatest status."""
-    named = needed(STANDARD_INPUT) if asked.file == "-" else asked.file
-    with open(named, "rb", buffering=0, closefd=named is asked.file) as file, folder_of_texts(asked.out):
+    with Input(asked.file) as file, folder_of_texts(asked.out):
         check_input(file.fileno(), "the capture is")
         source = files.Source(file)
         left = [name for name in os.listdir(asked.out) if name.endswith((".csv", ".partial", ".tds"))]

@@ -4,14 +4,15 @@ from __future__ import annotations
 import argparse
 import codecs
 import contextlib
+import errno
 import fcntl
+import io
 import os
 import re
 import signal
 import stat
 import sys
 import textwrap
-from io import BufferedReader
 from typing import Any, Callable, Iterable, Iterator, Optional, Union
 
 from gavyreto import program, tds
@@ -184,19 +185,37 @@ def are_two_places(one: int, other: int) -> bool:
     return before[0] != before[1] or after[0] != after[1]
 
 
-def open_response(name: str) -> BufferedReader:
-    """A recorded response, or standard input if its name is "-". Raises `Stopped` if it can't be read, or is something else."""
-    shown = STREAMS[STANDARD_INPUT] if name == "-" else name
+class Input(io.FileIO):
+    """A file, or standard input if its name is "-". It ends where it is over, and fails where nothing is there yet and nobody waits."""
+
+    def __init__(self, name: str) -> None:
+        super().__init__(needed(STANDARD_INPUT) if name == "-" else name, closefd=name != "-")
+        self._shown = shown_of(name)
+
+    def readinto(self, room: Any) -> int:
+        count: Optional[int] = super().readinto(room)
+        if count is None:
+            raise BlockingIOError(errno.EAGAIN, "nothing is there yet, and it doesn't block", self._shown)
+        return count
+
+
+def shown_of(name: str) -> str:
+    """The name of an input for a line."""
+    return STREAMS[STANDARD_INPUT] if name == "-" else name
+
+
+def open_response(name: str) -> io.BufferedReader:
+    """A recorded response. Raises `Stopped` if it can't be read, or is something else."""
     try:
-        file = open(needed(STANDARD_INPUT) if name == "-" else name, "rb", closefd=name != "-")
+        file = io.BufferedReader(Input(name))
         check_input(file.fileno(), "the response is")
         head = file.peek(LONGEST_HEAD)
     except OSError as failure:
-        raise Stopped(f"{shown}: {cause_of(failure)}", FAILED) from None
+        raise Stopped(f"{shown_of(name)}: {cause_of(failure)}", FAILED) from None
     other = other_than_response(head)
     if other:
         file.close()
-        raise Stopped(f"{shown} is {other}", BAD_INPUT)
+        raise Stopped(f"{shown_of(name)} is {other}", BAD_INPUT)
     return file
 
 

@@ -25,15 +25,16 @@ import os
 import re
 import sys
 import time
+from io import BufferedReader
 from itertools import chain
-from typing import BinaryIO, Callable, Iterable, Iterator, NamedTuple, NoReturn, Optional
+from typing import Callable, Iterable, Iterator, NamedTuple, NoReturn, Optional
 
 from gavyreto import connection, program, tds
 from gavyreto.asking import Asking, Interrupt
 from gavyreto.commands import common
 from gavyreto.commands.common import (
-    STANDARD_INPUT, STANDARD_OUTPUT, STREAMS, Stopped, add_options_of_program, cause_of, check_input, checked_program, is_one_file, named, needed, number_in, parser_of,
-    tell_all,
+    STANDARD_INPUT, STANDARD_OUTPUT, Input, Stopped, add_options_of_program, cause_of, check_input, checked_program, is_one_file, named, needed, number_in, parser_of,
+    shown_of, tell_all,
 )
 from gavyreto.connection import Secret, Session
 from gavyreto.logins import LONGEST_TOKEN
@@ -82,31 +83,26 @@ def times_of(digits: str) -> int:
     return int(digits)
 
 
-def lines_of(file: BinaryIO, name: str) -> Iterator[str]:
-    """The lines of a file of statements, in UTF-8, with or without a byte order mark."""
-    for number, line in enumerate(file):
-        try:
-            text = line.decode("utf-8-sig" if number == 0 else "utf-8")
-        except UnicodeDecodeError:
-            is_wide = number == 0 and line.startswith((codecs.BOM_UTF16_LE, codecs.BOM_UTF16_BE))
-            raise Stopped(f"{name}, line {number + 1}: not UTF-8{'; ' + UTF_16 if is_wide else ''}", REFUSED) from None
-        if "\0" in text:
-            raise Stopped(f"{name}, line {number + 1}: a NUL character; {UTF_16}", REFUSED)
-        yield text
-
-
-def batches_of(path: str) -> list[Batch]:
-    if path == "-":
-        return list(standard_input())
+def lines_of(path: str) -> Iterator[str]:
+    """The lines of a file of statements, or of standard input, in UTF-8, with or without a byte order mark."""
+    name = shown_of(path)
     try:
-        with open(path, "rb") as file:
-            return list(batches(lines_of(file, path)))
+        with BufferedReader(Input(path)) as file:
+            for number, line in enumerate(file, 1):
+                yield _text_of(line, f"{name}, line {number}", number == 1)
     except OSError as failure:
-        raise Stopped(f"{path}: {cause_of(failure)}", FAILED) from None
+        raise Stopped(f"{name}: {cause_of(failure)}", FAILED) from None
 
 
-def standard_input() -> Iterator[Batch]:
-    return batches(lines_of(os.fdopen(needed(STANDARD_INPUT), "rb", closefd=False), STREAMS[STANDARD_INPUT]))
+def _text_of(line: bytes, where: str, is_first: bool) -> str:
+    try:
+        text = line.decode("utf-8-sig" if is_first else "utf-8")
+    except UnicodeDecodeError:
+        is_wide = is_first and line.startswith((codecs.BOM_UTF16_LE, codecs.BOM_UTF16_BE))
+        raise Stopped(f"{where}: not UTF-8{'; ' + UTF_16 if is_wide else ''}", REFUSED) from None
+    if "\0" in text:
+        raise Stopped(f"{where}: a NUL character; {UTF_16}", REFUSED)
+    return text
 
 
 def statements_of(asked: argparse.Namespace) -> Iterator[str]:
@@ -116,9 +112,10 @@ def statements_of(asked: argparse.Namespace) -> Iterator[str]:
     if asked.statements:
         found = [Batch(statement, 1) for statement in asked.statements]
     elif asked.input:
-        found = [batch for path in asked.input for batch in batches_of(path)]
+        found = [batch for path in asked.input for batch in batches(lines_of(path))]
     else:
-        found = list(standard_input()) if any("{}" not in it for it in templates_of(asked)) else standard_input()
+        found = batches(lines_of("-"))
+        found = list(found) if any("{}" not in it for it in templates_of(asked)) else found
     if isinstance(found, list):
         found = [batch for batch in found if batch.statement.strip()]
         check(found, asked)
@@ -205,11 +202,7 @@ def ask_tables(asked: argparse.Namespace, password: str) -> int:
     """Sends the statements of a file, each with a text under its name. Returns the greatest status."""
     from gavyreto import tables
 
-    try:
-        with open(needed(STANDARD_INPUT) if asked.tables == "-" else asked.tables, "rb", closefd=asked.tables != "-") as file:
-            items = tables.items_of(lines_of(file, asked.tables), asked.tables)
-    except OSError as failure:
-        raise Stopped(f"{asked.tables}: {cause_of(failure)}", FAILED) from None
+    items = tables.items_of(lines_of(asked.tables), asked.tables)
     source = STANDARD_INPUT if asked.tables == "-" else asked.tables
     check_input(source, "the statements are")
     for item in items:
