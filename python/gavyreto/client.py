@@ -31,23 +31,21 @@ class Connection(Single, contextlib.AbstractContextManager["Connection"]):
         self._lock = threading.Lock()
 
     def __exit__(self, kind: object, *_: object) -> None:
-        self._end(judges=not kind)
-
-    def close(self) -> None:
-        """Closes the connection. Raises BadAnswer if the server sent more than it was asked for."""
-        self._end(judges=True)
-
-    def _end(self, judges: bool) -> None:
         answer, self._answer = self._answer, None
         try:
-            if answer and not answer.is_left:
-                answer.close()
-            if judges:
+            if answer:
+                answer.__exit__(kind)
+            if not kind:
                 self._session.end()
         finally:
             self._session.close()
             if self._program:
                 self._program.close()
+
+    def close(self) -> None:
+        """Closes the connection. Raises an error behind rows of the last answer, if it wasn't raised yet, and BadAnswer if the server sent
+        more than it was asked for."""
+        self.__exit__(None)
 
     def query(
         self, statement: str, *, dates: Dates = False, adapt: bool = False, column_room: int = COLUMN_ROOM, max_wire: int = MAX_WIRE,
@@ -57,12 +55,15 @@ class Connection(Single, contextlib.AbstractContextManager["Connection"]):
         answer has to be read to its end before the next statement; a connection whose answer isn't is closed with it.
 
         Raises ValueError if the answer before isn't read, another thread asks, or the statement is no Unicode, OSError if the program
-        can't be started, ConnectionFailed, and BadAnswer if bytes have come that weren't asked for."""
+        can't be started, ConnectionFailed, BadAnswer if bytes have come that weren't asked for, and before it asks an error behind
+        rows of the answer before, if it wasn't raised yet."""
         if not self._lock.acquire(blocking=False):
             raise ValueError("another thread asks on this connection")
         try:
             if self._answer and not self._answer.is_left:
                 raise ValueError("the answer before isn't read to its end")
+            if self._answer:
+                self._answer.close()
             check_dates(dates)
             run = self._run_of(command_of(program, self._session.packet_size, column_room, max_wire, charset))
             run.begin()
@@ -112,13 +113,13 @@ class Cursor(contextlib.AbstractContextManager["Cursor"]):
         self._set: Optional[ResultSet] = None
 
     def __exit__(self, kind: object, *_: object) -> None:
-        if self._answer:
-            self._answer.__exit__(kind)
+        answer, self._answer, self._set = self._answer, None, None
+        if answer:
+            answer.__exit__(kind)
 
     def close(self) -> None:
-        """Leaves the answer. Raises an error behind rows that were handed out, if it wasn't raised yet."""
-        if self._answer:
-            self._answer.close()
+        """Leaves the answer, of which no more is handed out. Raises an error behind rows that were, if it wasn't raised yet."""
+        self.__exit__(None)
 
     def execute(self, statement: str, parameters: object = None, **options: Any) -> Cursor:
         """Asks, with the options of `Connection.query`. Parameters aren't filled in: they raise NotSupportedError."""

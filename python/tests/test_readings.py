@@ -443,6 +443,36 @@ class DatabaseApi(Live):
             connection.close()
         self.assertEqual((gavyreto.apilevel, gavyreto.threadsafety), ("2.0", 1))
 
+    def test_an_error_behind_rows(self) -> None:
+        """Whatever follows on the connection raises it, once."""
+        failed = answered(*responses.order_rows(0), served.done(tds.MORE), served.server_error(1, "no", 1), served.done(tds.FAILED))
+        ways: list[Callable[[Any, Any], object]] = [
+            lambda connection, _: connection.close(), lambda connection, _: connection.__exit__(None, None, None), lambda connection, _: connection.commit(),
+            lambda connection, _: connection.query("x", program=PROGRAM), lambda _, cursor: cursor.close(), lambda _, cursor: cursor.execute("x", program=PROGRAM),
+        ]
+        for number, way in enumerate(ways):
+            with self.subTest(number), serving(failed, ORDERED) as port, connected(port) as connection:
+                cursor = connection.cursor().execute("x", program=PROGRAM)
+                self.assertEqual(len(cursor.fetchall()), 3)
+                with self.assertRaises(gavyreto.ServerError):
+                    way(connection, cursor)
+                if number > 1:
+                    self.assertEqual(len(connection.query("x", program=PROGRAM).only().fetchall()), 3)
+        with serving(failed) as port, self.assertRaises(KeyError), connected(port) as connection:
+            connection.query("x", program=PROGRAM).only().fetchall()
+            raise KeyError
+
+    def test_a_cursor_that_is_closed(self) -> None:
+        with serving(ORDERED) as port, connected(port) as connection:
+            cursor = connection.cursor().execute("x", program=PROGRAM)
+            self.assertEqual(len(cursor.fetchmany(1)), 1)
+            cursor.close()
+            calls: list[Callable[[], object]] = [cursor.fetchone, cursor.fetchmany, cursor.fetchall]
+            for call in calls:
+                with self.assertRaises(gavyreto.ProgrammingError):
+                    call()
+            self.assertEqual((cursor.description, cursor.nextset()), (None, None))
+
     def test_a_cursor_whose_statement_fails(self) -> None:
         """It has no set, and not that of the statement before, or the set before."""
         failed = answered(*responses.order_rows(0), served.done(tds.MORE), served.server_error(1, "no", 1), served.done(tds.FAILED))
