@@ -28,9 +28,12 @@ def _raising(number: int, _: object) -> NoReturn:
 
 
 def _begin() -> None:
-    """Ctrl-C is a line and a status from here on. It is ignored of what the shell runs in the background."""
+    """Ctrl-C is a line and a status from here on. It is ignored of what the shell runs in the background. How a program ended is known
+    only if its signal isn't."""
     if signal.getsignal(signal.SIGINT) is signal.default_int_handler:
         signal.signal(signal.SIGINT, _interrupted)
+    if signal.getsignal(signal.SIGCHLD) is signal.SIG_IGN:
+        signal.signal(signal.SIGCHLD, signal.SIG_DFL)
 
 
 if __name__ == "__main__":

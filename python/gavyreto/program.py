@@ -134,14 +134,15 @@ def widen(pipe: IO[bytes]) -> None:
         fcntl.fcntl(pipe.fileno(), F_SETPIPE_SZ, ROOM_OF_PIPE)
 
 
-def status_after(process: subprocess.Popen[bytes]) -> int:
+def status_after(process: subprocess.Popen[bytes]) -> Optional[int]:
     """The status of a process, once it has ended. An interrupt within a call of Popen can leave its lock taken, for which its
-    own wait would wait without end; and it can lose a status, in whose place the one of a failure stands."""
+    own wait would wait without end. None if the status is lost: by an interrupt, or to a caller that ignores SIGCHLD."""
     while process.returncode is None:
         try:
             process.returncode = os.waitstatus_to_exitcode(os.waitpid(process.pid, 0)[1])
         except ChildProcessError:
             process.returncode = FAILED
+            return None
     return process.returncode
 
 

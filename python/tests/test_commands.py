@@ -7,6 +7,7 @@ import os
 import signal
 import subprocess
 import sys
+import tempfile
 import unittest
 from concurrent.futures import ThreadPoolExecutor
 from contextlib import redirect_stderr, redirect_stdout
@@ -19,7 +20,7 @@ from gavyreto.commands.common import Stopped
 from gavyreto.errors import BadAnswer, ConnectionFailed, Report, ServerError
 from gavyreto.payload import Ended
 from gavyreto.program import Ending, judged
-from tests.beside import Live, assert_signalled, lines_of, started, stepped
+from tests.beside import PROGRAM, ROOT, SECONDS, Live, assert_signalled, lines_of, started, stepped
 
 SERVER_LINE = "server error 1, state 1, class 16, line 1: no"
 
@@ -101,6 +102,23 @@ class Interrupts(Live):
         with redirect_stdout(io.StringIO()) as said, ThreadPoolExecutor(1) as thread:
             self.assertEqual(thread.submit(entry.ending, ["columns", "--help"]).result(), ("", 0))
         self.assertIn("usage", said.getvalue())
+
+    def test_a_signal_that_is_ignored(self) -> None:
+        """Whoever starts the command, or the interpreter, may ignore that programs end: how they did is known all the same."""
+        ignoring = "import os, signal, sys; signal.signal(signal.SIGCHLD, signal.SIG_IGN); os.execv(sys.executable, [sys.executable, *sys.argv[1:]])"
+        self.store("kinds", "300")  # too long for a pipe at once
+        folder = tempfile.TemporaryDirectory()
+        self.addCleanup(folder.cleanup)
+        with open(self.path("capture.pcap"), "wb") as file:
+            subprocess.run([sys.executable, os.path.join(ROOT, "tools", "capture"), self.path("kinds.tds"), self.path("float.tds")], stdout=file, check=True)
+        refused = f"import gavyreto\ntry: next(gavyreto.export('float.tds', program={PROGRAM!r}))\nexcept gavyreto.Fault as failure: print(failure.name)"
+        for words, status, told in (
+            (["-m", "gavyreto", "many", "--program", PROGRAM, "kinds.tds", "float.tds", f"{folder.name}/many"], 4, b""), (["-c", refused], 0, b"RefusedColumn"),
+            (["-m", "gavyreto", "capture", "--program", PROGRAM, "capture.pcap", f"{folder.name}/captured"], 4, b"sets 1 rows 300 errors 0"),
+        ):
+            came = subprocess.run([sys.executable, "-c", ignoring, *words], cwd=self.folder, capture_output=True, check=False, timeout=SECONDS, **started())
+            with self.subTest(words=words):
+                self.assertEqual((came.returncode, told in came.stdout), (status, True), came.stderr + came.stdout)
 
     def test_a_signal_that_python_drops(self) -> None:
         """An exception in the call of a weak reference ends nothing: the command goes on, and says in the end what came."""

@@ -30,7 +30,7 @@ class Run:
         with contextlib.suppress(BrokenPipeError):
             program.write_all(cast("IO[bytes]", self._process.stdin).fileno(), data)
 
-    def end(self) -> tuple[int, str]:
+    def end(self) -> tuple[Optional[int], str]:
         """Its status and its lines, once it isn't given any more."""
         try:
             if self._process.stdin:
