@@ -269,9 +269,9 @@ class TextFile(Opened, io.TextIOBase):
 class ResultSet(Single):
     """An iterator over the rows of one set, each a tuple with a value for each column, which `row.name` gives too.
 
-    All calls take rows from one buffer, from its one place on. Rows that came before an error are handed out first: the error comes
-    with the next call, or with the end of the context. It is read from the same text as the set after it: asking for the next set
-    passes over the rows left here, and asking for them after that raises `PassedOver`."""
+    All calls take rows from one buffer, from its one place on. Rows that came before an error are handed out first, but by those that
+    give all: the error comes with the next call, or with the end of the context. It is read from the same text as the set after it:
+    asking for the next set passes over the rows left here, and asking for them after that raises `PassedOver`."""
 
     def __init__(self, sets: Sets, place: int, names: list[str], is_only: bool) -> None:
         self.names = names  #: of the columns, as the server gave them: some may be "" or equal
@@ -319,8 +319,10 @@ class ResultSet(Single):
         return rows
 
     def fetchall(self) -> list[Row]:
-        """The rows that are left (PEP 249)."""
-        return self.fetchmany(sys.maxsize)
+        """The rows that are left (PEP 249). An error is raised in place of rows that aren't all; those before it are left."""
+        rows, places = list[Row](), range(len(self.names))
+        return self.each(
+            lambda columns: rows.extend(map(self._row, zip(*columns))), lambda: [[row[place] for row in rows] for place in places], lambda: rows)
 
     def frame(self) -> Any:
         """The rows that are left as a DataFrame of pandas, which has to be there. Whole numbers, bit and text have the types of
@@ -414,9 +416,10 @@ class ResultSet(Single):
         if field is None:
             self._is_over = True
             raise StopIteration
-        self._before += 1
         if isinstance(field, Held):
             self._sets._close_row(place, iter(()))
+        self._before += 1
+        if isinstance(field, Held):
             return _file_of(field.value)
         self._sets._is_within = True
         kind: type[Union[ValueFile, TextFile]] = ValueFile if field.shape is BINARY else TextFile
@@ -431,13 +434,14 @@ class ResultSet(Single):
     def _gathered(self, count: int, before: Sequence[Row] = ()) -> int:
         """Sees to it that so many rows are in the buffer, as far as they come, and returns how many are. Raises what ended the reading
         if there are none, also none of the same call before."""
+        is_told = bool(self._sets._failure) and not self._sets._is_untold
         try:
             while length_hint(self._first) < count and not self._is_over:
                 self._extend()
         except Error:
             if not length_hint(self._first) and not before:
                 raise
-            self._sets._is_untold = True
+            self._sets._is_untold = not is_told
         left = length_hint(self._first)
         if not left and not before:
             self._check_passed_over()

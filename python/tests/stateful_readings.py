@@ -194,7 +194,9 @@ class Reading:
         if call == 1:
             return [row[0] for row in rows.fetchmany(size)]
         if call == 2:
-            return [row[0] for row in rows.fetchall()]
+            with contextlib.suppress(gavyreto.Error):  # then they are left
+                return [row[0] for row in rows.fetchall()]
+            return [row[0] for row in rows.fetchmany(10**6)]
         if call == 3:
             return [value for batch in islice(rows.batches(size), 2) for value in batch[0]]
         return [row[0] for row in islice(rows, size)]

@@ -94,7 +94,7 @@ for options in ({}, {"dates": True}):
     except gavyreto.ServerError as error:
         print(error.number, error.rows)
     try:
-        first += map(tuple, rows.fetchall())
+        first += map(tuple, rows)
     except gavyreto.ServerError:
         pass
     assert repr(first) == repr(wanted), (first, wanted)
@@ -112,7 +112,7 @@ with test_readings.serving(test_readings.ORDERED, beside.wire("broken", 5)) as p
         rows.frame()
     except gavyreto.ServerError as error:
         print(error.number)
-    print([row.id for row in rows.fetchall()])
+    print([row.id for row in rows.fetchmany(9)])
 """
 KINDS = {
     "tinyint": "UInt8", "smallint": "Int16", "int": "Int32", "bigint": "Int64", "bit": "UInt8", "char": "string", "nchar": "string", "varchar": "string",

@@ -46,7 +46,7 @@ class Rows(unittest.TestCase):
         data = wire("broken", 5)
         whole = [(1, 2, 3, 1, 2)[place] for place in range(5)]
         cases: list[list[Callable[[Any], Any]]] = [
-            [lambda rows: rows.fetchmany(3), lambda rows: rows.fetchall()], [lambda rows: rows.fetchall()],
+            [lambda rows: rows.fetchmany(3), lambda rows: rows.fetchmany(9)], [lambda rows: rows.fetchmany(9)],
             [lambda rows: [rows.fetchone() for _ in range(5)]], [lambda rows: list(zip(*next(rows.batches(3)))), lambda rows: rows.fetchmany(9)],
             [lambda rows: list(zip(*next(rows.batches(100))))], [lambda rows: list(islice(rows, 4)), lambda rows: rows.fetchmany(2)],
         ]
@@ -62,10 +62,27 @@ class Rows(unittest.TestCase):
                         again()
                     self.assertEqual(raised.exception.rows, 5)
         with self.assertRaises(gavyreto.ServerError), gavyreto.export(data, program=PROGRAM) as came:
-            self.assertEqual(len(next(came).fetchall()), 5)
+            self.assertEqual(len(next(came).fetchmany(9)), 5)
         with self.assertRaises(KeyError), gavyreto.export(data, program=PROGRAM) as came:
-            next(came).fetchall()
+            next(came).fetchmany(9)
             raise KeyError
+
+    def test_all_rows_are_all_or_an_error(self) -> None:
+        """Whoever asks for all doesn't ask again: the error comes in their place, each time, and they are left for other calls."""
+        cases: list[tuple[bytes, int, type[gavyreto.Error]]] = [(wire("broken", 5), 5, gavyreto.ServerError), (wire("orders", 0, 20)[:-30], 2, gavyreto.Fault)]
+        for data, count, kind in cases:
+            for taken in range(2):
+                came = gavyreto.export(data, program=PROGRAM)
+                rows: Any = next(came)
+                first = rows.fetchmany(taken)
+                for _ in range(2):
+                    with self.assertRaises(kind) as raised:
+                        rows.fetchall()
+                    self.assertEqual((raised.exception.rows, came.rows), (taken, taken))
+                self.assertEqual(len(first + rows.fetchmany(9)), count)
+                came.close()  # it was raised already
+                with self.assertRaises(kind):
+                    rows.fetchmany(9)
 
     def test_calls_in_any_order_give_each_row_once(self) -> None:
         """Batches that are left, rows one by one, some and all: against the rows in their order."""
@@ -437,7 +454,7 @@ class DatabaseApi(Live):
             cursor = connection.cursor()
             with self.assertRaises(gavyreto.NotSupportedError):
                 cursor.execute("x", (1,))
-            self.assertEqual(len(cursor.execute("x").fetchall()), 2)
+            self.assertEqual(len(cursor.execute("x").fetchmany(3)), 2)
             with self.assertRaises(gavyreto.ServerError):
                 cursor.close()
             connection.close()
@@ -453,13 +470,13 @@ class DatabaseApi(Live):
         for number, way in enumerate(ways):
             with self.subTest(number), serving(failed, ORDERED) as port, connected(port) as connection:
                 cursor = connection.cursor().execute("x", program=PROGRAM)
-                self.assertEqual(len(cursor.fetchall()), 3)
+                self.assertEqual(len(cursor.fetchmany(9)), 3)
                 with self.assertRaises(gavyreto.ServerError):
                     way(connection, cursor)
                 if number > 1:
                     self.assertEqual(len(connection.query("x", program=PROGRAM).only().fetchall()), 3)
         with serving(failed) as port, self.assertRaises(KeyError), connected(port) as connection:
-            connection.query("x", program=PROGRAM).only().fetchall()
+            connection.query("x", program=PROGRAM).only().fetchmany(9)
             raise KeyError
 
     def test_a_cursor_that_is_closed(self) -> None:

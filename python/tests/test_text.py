@@ -157,6 +157,13 @@ class ByColumns(unittest.TestCase):
                         self.assertEqual(rows.fetchall(), [(3,)])
                     else:
                         self.assertRaises(gavyreto.MalformedText, rows.fetchall)
+        for text, count in ((b'"a","b"\r\n1,2\r\n1,2,3\r\n', 1), (b'"a","b"\r\nNULL\r\n', 0)):  # a row that is none is none that was handed out
+            with sets_of(text, 5) as came:
+                rows = next(came)
+                rows.fetchmany(count)
+                with self.assertRaises(gavyreto.MalformedText) as raised:
+                    rows.open()
+                self.assertEqual((raised.exception.rows, came.rows), (count, count))
 
     def test_nothing_is_read_past_a_value_that_is_open(self) -> None:
         for text, kind in (('"a","b"\r\n"' + "x" * 3_000_000 + '",1\r\n"y",2\r\n\r\n"c"\r\n', str), ('"a","b"\r\n0x' + "ab" * 3_000_000 + ',1\r\n0x00,2\r\n', bytes)):
