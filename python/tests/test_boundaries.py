@@ -277,6 +277,14 @@ class Sent(Live):
                 self.assertEqual((came.returncode, came.stdout, came.stderr.count(b"\n")), (2, b"", 1), came.stderr[-300:])
                 self.assertFalse(os.path.exists(self.path("sent")))
 
+    def test_go_between_line_ends_of_cr_alone(self) -> None:
+        """To a server they are blanks: GO would be another name of a column there, or all behind it a comment here."""
+        for lines, number in ((r"SELECT 1\rGO\rSELECT 2\r", 1), (r"SELECT 1\nGO -- next\rSELECT 2\n", 2), (r"SELECT 1 AS a\rgo\n", 1)):
+            came = self.query("TRUSTED -i lines", ("--record", "sent"), f"printf '{lines}' > lines; ")
+            with self.subTest(lines=lines):
+                self.assert_ends(came, 2, b"", f"lines, line {number}: GO, and a line end that is neither LF nor CR LF")
+                self.assertFalse(os.path.exists(self.path("sent")))
+
     def test_a_file_of_statements_is_no_output(self) -> None:
         with open(self.path("lines"), "w", encoding="ascii") as file:
             file.write("SELECT * FROM orders\n")

@@ -102,6 +102,9 @@ def _text_of(line: bytes, where: str, is_first: bool) -> str:
         raise Stopped(f"{where}: not UTF-8{'; ' + UTF_16 if is_wide else ''}", REFUSED) from None
     if "\0" in text:
         raise Stopped(f"{where}: a NUL character; {UTF_16}", REFUSED)
+    lines = text.rstrip("\r\n").split("\r")
+    if len(lines) > 1 and any(map(GO.fullmatch, lines)):
+        raise Stopped(f"{where}: GO, and a line end that is neither LF nor CR LF", REFUSED)
     return text
 
 
