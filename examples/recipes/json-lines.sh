@@ -20,11 +20,11 @@ from gavyreto.columns import create_table, sqlite_type
 
 
 def spelt(value):
-    return value.hex() if isinstance(value, bytes) else str(value)
+    return value.hex() if isinstance(value, bytes) else f"{value:f}" if isinstance(value, Decimal) else str(value)
 
 
 def stored(value):
-    return str(value) if isinstance(value, Decimal) else value
+    return spelt(value) if isinstance(value, Decimal) else value
 
 
 with gavyreto.export("sets.tds") as response, sqlite3.connect("sets.db") as database:
