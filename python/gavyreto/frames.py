@@ -46,10 +46,12 @@ class Gathered:
             self._greatest = max(self._greatest, *(abs(value) for value in values if isinstance(value, int)), 0)
 
     def values(self) -> list[Value]:
-        """The values again."""
+        """The values again, with the types that they had."""
+        import numpy
         import pandas  # type: ignore[import]
 
-        return [None if value is pandas.NA or value != value else value for part in self._parts for value in part.tolist()]
+        values = (value for part in self._parts for value in numpy.asarray(part, dtype=object).tolist())
+        return [None if value is pandas.NA or value != value else value for value in values]
 
     def series(self) -> Any:
         import numpy

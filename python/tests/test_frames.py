@@ -112,7 +112,7 @@ with test_readings.serving(test_readings.ORDERED, beside.wire("broken", 5)) as p
         rows.frame()
     except gavyreto.ServerError as error:
         print(error.number)
-    print([row.id for row in rows.fetchmany(9)])
+    print([(row.id, type(row.id).__name__) for row in rows.fetchmany(9)])
 """
 KINDS = {
     "tinyint": "UInt8", "smallint": "Int16", "int": "Int32", "bigint": "Int64", "bit": "UInt8", "char": "string", "nchar": "string", "varchar": "string",
@@ -158,7 +158,7 @@ class Frames(unittest.TestCase):
             skip(self, "Python's module pandas isn't there: `make needs` installs it")
         command = [requirements.DEBIAN_PYTHON, "-B", "-W", "ignore", "-c", LIVE]
         came = subprocess.run(command, cwd=os.path.join(ROOT, "python"), capture_output=True, text=True, check=False, **started(PROGRAM=PROGRAM))
-        wanted = "['id', 'customer', 'total', 'ordered', 'note'] [1, 2, 3]\n8134\n[1, 2, 3, 1, 2]\n"
+        wanted = f"['id', 'customer', 'total', 'ordered', 'note'] [1, 2, 3]\n8134\n{[(it, 'int') for it in (1, 2, 3, 1, 2)]}\n"
         self.assertEqual((came.returncode, came.stdout), (0, wanted), came.stderr)
 
 
