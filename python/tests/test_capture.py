@@ -235,7 +235,7 @@ class Captures(unittest.TestCase):
             made.write(file)
         with open(file.name, "rb") as plain, gzip.open(os.path.join(self.folder, "packed"), "wb") as packed:
             packed.write(plain.read())
-        for words in ("plain out", "packed out", "- out < plain", "- out < packed", "<(cat plain) out"):
+        for words in ("plain out", "packed out", "- out < plain", "- out < packed", "<(cat plain) out", "<(head -c 1 packed; sleep 0.5; tail -c +2 packed) out"):
             command = f'exec {sys.executable} -m gavyreto capture --program "{PROGRAM}" {words}'
             given = started()
             given.pop("stdin")

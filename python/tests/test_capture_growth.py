@@ -1,11 +1,13 @@
 """Tests of `capture` by what would take long, or much memory: work and memory don't grow with what comes in no good order."""
 from __future__ import annotations
 
+import tempfile
 import time
 import tracemalloc
 import unittest
 from collections.abc import Iterable, Iterator
 
+from gavyreto.capturing import keeping
 from gavyreto.capturing.accounts import Accounts
 from gavyreto.capturing.connections import Connections
 from gavyreto.capturing.files import Frame
@@ -106,6 +108,18 @@ class Memory(unittest.TestCase):
         """Those that are followed take a few kilobytes each; others about one."""
         first, second = self.peaks(list(self.resting(2400)))
         self.assertLess(second - first, 1200 * 2000)
+
+    def test_an_answer_beside_many(self) -> None:
+        """Its first bytes tell what it is, also where others have all the memory and each of its pieces goes into a file."""
+        data = bytes(range(256)) * 300
+        for length in (3, 7, 20, 5000):
+            with self.subTest(length), tempfile.TemporaryDirectory() as folder, keeping.Room(folder, [], False) as room:
+                room.used, kept = keeping.MOST_OF_ALL, keeping.Kept(room)
+                for at in range(0, len(data), length):
+                    kept.write(data[at:at + length])
+                    self.assertEqual(kept.first(1000), data[:at + length][:1000])
+                with open(kept.file(), "rb") as file:
+                    self.assertEqual((file.read(), room.used), (data, keeping.MOST_OF_ALL))
 
 
 if __name__ == "__main__":

@@ -7,7 +7,7 @@ import io
 import struct
 import zlib
 from collections.abc import Iterator
-from typing import IO, Callable, NamedTuple, cast
+from typing import IO, Callable, NamedTuple, Union, cast
 
 GZIP = b"\x1F\x8B"
 PCAP = {  # by the first bytes: the order of bytes, and the units of time in a second
@@ -39,12 +39,10 @@ class CutShort(Exception):
 
 
 class Source:
-    """The bytes of a file, a pipe, or what gzip made of them, of which the first can be looked at before they are read."""
+    """The bytes of a file or a pipe, of which the first can be looked at before they are read."""
 
-    def __init__(self, file: IO[bytes]) -> None:
+    def __init__(self, file: Union[IO[bytes], gzip.GzipFile]) -> None:
         self._file = io.BufferedReader(cast(io.RawIOBase, file), BLOCK)
-        if self._file.peek(2)[:2] == GZIP:
-            self._file = io.BufferedReader(cast(io.RawIOBase, gzip.GzipFile(fileobj=self._file)), BLOCK)
         self._head = self._some(HEAD)
 
     def _some(self, length: int) -> bytes:
@@ -85,6 +83,12 @@ class Source:
                 rest = b""
             if not block:
                 return
+
+
+def source_of(file: IO[bytes]) -> Source:
+    """The bytes of a file or a pipe, or what gzip made of them."""
+    source = Source(file)
+    return Source(gzip.GzipFile(fileobj=cast(IO[bytes], source))) if source.head().startswith(GZIP) else source
 
 
 def is_capture(head: bytes) -> bool:

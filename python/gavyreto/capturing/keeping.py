@@ -103,7 +103,7 @@ class Kept:
     def __init__(self, room: Room) -> None:
         self._room = room
         self._data = bytearray()
-        self._first = b""  # bytes that are in the file or the pipe
+        self._first = b""  # of the bytes that are in the file or the pipe
         self._path = ""
         self._run: Optional[Run] = None
 
@@ -117,10 +117,10 @@ class Kept:
     def _store(self, kept: int) -> None:
         """Hands on all bytes but the last ones, which may be taken away."""
         if not self._path and not self._run:
-            self._first = bytes(self._data[:MOST_IN_MEMORY])
             self._run = self._room.pipe()
             self._path = "" if self._run else self._room.next_path()
-        data = bytes(self._data[:len(self._data) - kept])
+        data = bytes(self._data[:max(len(self._data) - kept, 0)])
+        self._first += data[:MOST_IN_MEMORY - len(self._first)]
         if self._run:
             self._run.write(data)
         else:
@@ -142,7 +142,7 @@ class Kept:
 
     def first(self, length: int) -> bytes:
         """The first bytes, up to 64 KiB."""
-        return (self._first or bytes(self._data))[:length]
+        return (self._first + self._data[:length])[:length]
 
     def whole(self) -> Optional[bytes]:
         """All bytes, of an answer that is in memory."""

@@ -170,7 +170,7 @@ def capture(asked: argparse.Namespace) -> int:
     """Exports a capture or a dump, and returns the greatest status."""
     with Input(asked.file) as file, folder_of_texts(asked.out):
         check_input(file.fileno(), "the capture is")
-        source = files.Source(file)
+        source = files.source_of(file)
         left = [name for name in os.listdir(asked.out) if name.endswith((".csv", ".partial", ".tds"))]
         if left:
             raise Stopped(f"{asked.out} has texts, as {left[0]}: name a folder without them", REFUSED)
