@@ -243,18 +243,18 @@ class Server(NamedTuple):
         """A connection, before its greeting. Raises ConnectionFailed or OSError."""
         failure = OSError("no address")
         for family, kind, protocol, _, address in self._addresses():
-            connected = socket.socket(family, kind, protocol)
             try:
-                connected.settimeout(self._seconds_left())
-                connected.connect(address)
-                connected.setsockopt(socket.IPPROTO_TCP, socket.TCP_NODELAY, 1)
-                return self._limited(Channel(connected, self.seconds))
+                with contextlib.ExitStack() as stack:
+                    connected = stack.enter_context(socket.socket(family, kind, protocol))
+                    connected.settimeout(self._seconds_left())
+                    connected.connect(address)
+                    connected.setsockopt(socket.IPPROTO_TCP, socket.TCP_NODELAY, 1)
+                    channel = Channel(connected, self.seconds)
+                    channel.limit(self.until, self.too_long())
+                    stack.pop_all()
+                    return channel
             except OSError as wrong:
-                connected.close()
                 failure = TimeoutError(self.too_long()) if isinstance(wrong, socket.timeout) and not wrong.errno else wrong
-            except BaseException:
-                connected.close()
-                raise
         raise failure
 
     def found(self) -> Server:
@@ -305,10 +305,6 @@ class Server(NamedTuple):
             return socket.getaddrinfo(self.host, self.port, 0, socket.SOCK_STREAM, 0, flags)
         except ValueError as wrong:  # a name that is too long, say
             raise ConnectionFailed(f"{self.host}, port {self.port}: no host of a network ({wrong})") from None
-
-    def _limited(self, channel: Channel) -> Channel:
-        channel.limit(self.until, self.too_long())
-        return channel
 
     def too_long(self) -> str:
         """What is told of a login that isn't done in time."""

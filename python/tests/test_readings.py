@@ -20,7 +20,7 @@ from unittest import mock
 
 import gavyreto
 from gavyreto import tds
-from gavyreto.connection import Channel
+from gavyreto.connection import Channel, Server
 from gavyreto.text import Sets
 from tests.beside import PROGRAM, SECONDS, Live, answered, context_of, interrupted, listening, log_in, log_in_encrypted, responses, saying_goodbye, served, serving, wire
 
@@ -408,6 +408,13 @@ class Connections(Live):
             gavyreto.connect("slow.example", user="u", password="p", login_seconds=0.5)
         self.assertLess(time.monotonic() - began, SECONDS / 10)
         ended.set()
+
+    def test_an_address_of_a_family_that_the_system_lacks(self) -> None:
+        """As those of IPv6, which many names have too: the next address is asked."""
+        with serving(ORDERED) as port:
+            addresses = [(family, socket.SOCK_STREAM, 0, "", ("127.0.0.1", port)) for family in (99, socket.AF_INET)]
+            with mock.patch.object(Server, "_addresses", lambda _: addresses), connected(port) as connection:
+                self.assertEqual(len(connection.query("x", program=PROGRAM).only().fetchall()), 3)
 
     def test_kinds_of_errors(self) -> None:
         for kind in (gavyreto.TimedOut, gavyreto.CertificateRefused, gavyreto.EncryptionRefused):
