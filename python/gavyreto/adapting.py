@@ -51,7 +51,7 @@ def _old(payload: Payload, type_: Type) -> Iterator[bytes]:
     if pointer == 0:
         yield NULL_CHUNKS
         return
-    payload.skip(pointer + 8)
+    payload.need(pointer + 8)
     length = payload.number(4)
     if length > LONGEST_OLD or type_.byte == DataType.NTEXT and length % 2:
         raise ValueError(f"a value of the type 0x{type_.byte:02x} of {length} bytes")
@@ -185,7 +185,7 @@ class Adapter:
         can't be followed; what came before is written then."""
         is_whole = False
         try:
-            while self._payload.has(1):
+            while self._payload.has_more():
                 self._token(self._payload.number(1))
             is_whole = True
         finally:

@@ -44,23 +44,24 @@ class Payload:
         if len(header) < tds.HEADER or len(body) != length:
             raise Ended
         self.is_over = bool(header[1] & tds.LAST)
-        self.data, self.at = self.data[self.at:] + body, 0
+        self.data, self.at = body, 0
         self.tail = (self.tail + body[-tds.DONE_LENGTH:])[-tds.DONE_LENGTH:]
         return True
 
-    def has(self, length: int) -> bool:
-        """Whether so many bytes are still to come."""
-        while len(self.data) - self.at < length:
+    def has_more(self) -> bool:
+        """Whether a byte is still to come."""
+        while self.at == len(self.data):
             if not self.packet():
                 return False
         return True
 
     def need(self, length: int) -> bytes:
         """The next bytes. Raises Ended if there are fewer."""
-        if not self.has(length):
-            raise Ended
-        self.at += length
-        return self.data[self.at - length:self.at]
+        at = self.at
+        if length > len(self.data) - at:
+            return b"".join(self.pieces(length))
+        self.at = at + length
+        return self.data[at:self.at]
 
     def number(self, length: int) -> int:
         return int.from_bytes(self.need(length), "little")
@@ -68,16 +69,12 @@ class Payload:
     def pieces(self, length: int) -> Iterator[bytes]:
         """The next bytes, in the pieces in which they come."""
         while length:
-            if not self.has(1):
+            if not self.has_more():
                 raise Ended
             piece = self.data[self.at:self.at + length]
             self.at += len(piece)
             length -= len(piece)
             yield piece
-
-    def skip(self, length: int) -> None:
-        for _ in self.pieces(length):
-            pass
 
 
 # Tokens, rows and cells.
@@ -92,7 +89,7 @@ class Found(NamedTuple):
 def tokens(payload: Payload) -> Iterator[Found]:
     """The tokens of a response. Whoever takes a row reads its cells before the next token; other tokens are passed over."""
     described: Optional[list[Described]] = None
-    while payload.has(1):
+    while payload.has_more():
         byte = payload.number(1)
         if byte == Token.COLUMNS:
             described = columns.read_description(payload.need)

@@ -66,7 +66,7 @@ def shortest_real(data: bytes) -> str:
 def payload_of(data: bytes) -> bytes:
     """The payload of a response."""
     payload = Payload(io.BytesIO(data).read)
-    return b"".join(iter(lambda: payload.need(len(payload.data) - payload.at) if payload.has(1) else b"", b""))
+    return b"".join(iter(lambda: payload.need(len(payload.data) - payload.at) if payload.has_more() else b"", b""))
 
 
 class Adapted(unittest.TestCase):
