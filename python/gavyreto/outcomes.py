@@ -12,8 +12,7 @@ import time
 from dataclasses import dataclass, fields
 from typing import Any, Generic, Iterable, Iterator, Optional, Sequence, TypeVar
 
-from gavyreto import program
-from gavyreto.commands.common import STANDARD_ERROR, Stopped, cause_of, is_one_file, line, say, tell
+from gavyreto.commands.common import STANDARD_ERROR, Stopped, cause_of, is_one_file, line, say, tell, write
 from gavyreto.program import BAD_INPUT, DONE, FAILED, REFUSED, SERVER_ERROR
 from gavyreto.records import record_at
 from gavyreto.values import value_of
@@ -104,26 +103,21 @@ class Table(Generic[R]):
         """The name of the table, from the folder that the command runs in."""
         return os.path.relpath(self._path)
 
-    def put(self, name: str, waiting: Optional[str], status: int) -> tuple[Optional[str], str]:
-        """Gives a text its name, and takes away the one that was there before. Returns its name, and why it has none."""
-        text, why = None if waiting is None else name + (PARTIAL if status == BAD_INPUT else TEXT), ""
-        if waiting and text:
+    def add(self, record: R, name: str, waiting: Optional[str]) -> R:
+        """Gives the text that waits its name, if one does, takes away the one that was there before, and writes the line: that of a
+        failure if the text can't have its name. Returns it."""
+        if waiting:
+            record.text = name + (PARTIAL if record.status == BAD_INPUT else TEXT)
             try:
-                os.replace(waiting, os.path.join(self._folder, text))
+                os.replace(waiting, os.path.join(self._folder, record.text))
             except OSError as failure:
-                text, why = None, f"{text}: {cause_of(failure)}"
-        for other in {name + TEXT, name + PARTIAL} - {text}:
+                record.status, record.line, record.text, record.written = FAILED, f"{record.text}: {cause_of(failure)}", None, 0
+        for other in {name + TEXT, name + PARTIAL} - {record.text}:
             with contextlib.suppress(OSError):
                 os.remove(os.path.join(self._folder, other))
-        return text, why
-
-    def add(self, record: R) -> None:
-        """Writes a line."""
-        try:
-            program.write_all(self._descriptor, _line_of(record))
-        except OSError as failure:
-            raise Stopped(f"{self._path}: {cause_of(failure)}", FAILED) from None
+        write(self._path, self._descriptor, _line_of(record))
         self.records[record.name] = record
+        return record
 
 
 def _line_of(record: Record) -> bytes:

@@ -10,9 +10,8 @@ import stat
 from collections.abc import Iterator
 from typing import NamedTuple, Union
 
-from gavyreto import program
 from gavyreto.commands.common import (
-    STANDARD_ERROR, STANDARD_INPUT, STANDARD_OUTPUT, STREAMS, TWO_PLACES, Stopped, are_two_places, cause_of, needed, opened_by,
+    STANDARD_ERROR, STANDARD_INPUT, STANDARD_OUTPUT, STREAMS, TWO_PLACES, Stopped, are_two_places, cause_of, needed, opened_by, write,
 )
 from gavyreto.program import FAILED, REFUSED
 
@@ -160,10 +159,7 @@ class Opened:
 
     def write(self, data: bytes) -> None:
         """Writes bytes. Raises `Stopped` if that fails."""
-        try:
-            program.write_all(self.descriptor, data)
-        except OSError as failure:
-            raise Stopped(f"{self.name}: {cause_of(failure)}", FAILED) from None
+        write(self.name, self.descriptor, data)
 
     def close(self, is_whole: bool) -> None:
         """All is there, or what there is. A file that is whole gets its name."""

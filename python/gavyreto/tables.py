@@ -265,11 +265,9 @@ def export(asked: argparse.Namespace, items: list[Item], connect: Connect) -> in
         table.begin(names, names)
         progress, failed = Progress("tables", len(items), 0), 0
         try:
-            for outcome in stack.enter_context(contextlib.closing(workers.outcomes(items))):
-                text, why = table.put(outcome.item.name, outcome.waiting, outcome.status)
-                outcome = outcome._replace(status=FAILED, line=why, written=0) if why else outcome
-                table.add(Record(outcome.item.name, outcome.status, outcome.line, text, outcome.written, outcome.began, outcome.item.statement, asked.options, version))
-                failed += outcome.status not in (DONE, SERVER_ERROR)
+            for it in stack.enter_context(contextlib.closing(workers.outcomes(items))):
+                record = Record(it.item.name, it.status, it.line, None, it.written, it.began, it.item.statement, asked.options, version)
+                failed += table.add(record, it.item.name, it.waiting).status not in (DONE, SERVER_ERROR)
                 progress.step(failed)
         except KeyboardInterrupt:
             raise Stopped("interrupted: begun again all are asked again", INTERRUPTED) from None

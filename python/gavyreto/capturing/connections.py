@@ -136,8 +136,7 @@ class Connections:
         conversation.take(is_client, segment, time)
         if segment.flags & (SYN | ACK) == SYN | ACK and self._endings.has_been(key, conversation.first()):
             self._desk.tell(conversation.sides, time, "a connection with these addresses and first numbers has been there: what follows may be the same")
-        if self._memory.is_past():
-            self._memory.shorten()
+        self._memory.shorten()
         if segment.flags & (FIN | RESET) or not segment.data:
             if conversation.is_over() or segment.flags & RESET and conversation.is_idle():
                 self._end(key, conversation)  # all of it is there

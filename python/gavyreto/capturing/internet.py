@@ -237,19 +237,10 @@ def _segment(tags: Tags, data: bytes, at: int, end: int, addresses: bytes, heade
     if head >> 4 < 5 or start > end:
         raise Unread("a wrong header of TCP")
     captured = min(end, len(data))
-    is_wrong = is_asked and captured == end and not is_sound(data[at:end], addresses, checksum)
+    is_wrong = is_asked and captured == end and not is_sum(data[at:end], sum_of_ends(addresses), checksum)
     both, half = data[at:at + 4], len(addresses) // 2
     ends = addresses[:half] + both[:2], addresses[half:] + both[2:]
     return Segment(tags, *ends, sequence, acknowledged, flags, data[start:captured], end - max(captured, start), is_wrong)
-
-
-def is_sound(segment: bytes, addresses: bytes, checksum: int) -> bool:
-    """Whether the checksum of a segment is right, or was left to the adapter: then a system writes 0, or the sum of the addresses,
-    the protocol and the length, or that without the length (RFC 9293, section 3.1); that sum may be written as 0 or as its like, FFFF.
-
-    2^16 is 1 modulo 2^16 - 1, so a number's remainder is the sum of its units of 16 bits as RFC 1071 has it; the sum of a few shorter
-    numbers is quicker to divide than one that is long."""
-    return is_sum(segment, sum_of_ends(addresses), checksum)
 
 
 def sum_of_ends(addresses: bytes) -> int:
@@ -258,7 +249,12 @@ def sum_of_ends(addresses: bytes) -> int:
 
 
 def is_sum(segment: bytes, ends: int, checksum: int) -> bool:
-    """The same, by what the addresses add."""
+    """Whether the checksum of a segment is right, by what the ends add to it, or was left to the adapter: then a system writes 0, or the
+    sum of the addresses, the protocol and the length, or that without the length (RFC 9293, section 3.1); that sum may be written as 0 or
+    as its like, FFFF.
+
+    2^16 is 1 modulo 2^16 - 1, so a number's remainder is the sum of its units of 16 bits as RFC 1071 has it; the sum of a few shorter
+    numbers is quicker to divide than one that is long."""
     length = len(segment)
     if checksum == 0 or checksum % 0xFFFF in (ends, (ends + length) % 0xFFFF):
         return True

@@ -24,10 +24,6 @@ class Memory:
             oldest, which = self._sums.popleft()
             oldest.pop(which, None)
 
-    def is_past(self) -> bool:
-        """Whether more is held than may be."""
-        return self.held > MOST_HELD
-
     def shorten(self) -> None:
         """Sees to it that no more is held than may be: those that were silent for longest hold less."""
         while self.held > MOST_HELD and self._holders:

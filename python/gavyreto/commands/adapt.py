@@ -11,10 +11,11 @@ from __future__ import annotations
 
 import argparse
 import os
+from functools import partial
 
 from gavyreto.adapting import Adapter
-from gavyreto.commands.common import STANDARD_ERROR, STANDARD_OUTPUT, STREAMS, Stopped, cause_of, is_one_file, named, needed, open_response, opened_by, parser_of
-from gavyreto.program import BAD_INPUT, CHARSETS, FAILED, REFUSED, write_all
+from gavyreto.commands.common import STANDARD_ERROR, STANDARD_OUTPUT, STREAMS, Stopped, cause_of, is_one_file, named, needed, open_response, opened_by, parser_of, write
+from gavyreto.program import BAD_INPUT, CHARSETS, FAILED, REFUSED
 
 
 def arguments(words: list[str]) -> argparse.Namespace:
@@ -39,16 +40,9 @@ def adapt(asked: argparse.Namespace) -> None:
             target = os.open(asked.output, os.O_WRONLY | os.O_CREAT | os.O_TRUNC, 0o666) if opened is None else opened
         except OSError as failure:
             raise Stopped(f"{name}: {cause_of(failure)}", FAILED) from None
-
-        def write(data: bytes) -> None:
-            try:
-                write_all(target, data)
-            except OSError as failure:
-                raise Stopped(f"{name}: {cause_of(failure)}", FAILED) from None
-
         is_more = True
         while is_more:
-            Adapter(source.read, write, asked.charset).run()
+            Adapter(source.read, partial(write, name, target), asked.charset).run()
             is_more = bool(source.peek(1))
 
 

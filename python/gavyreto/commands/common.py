@@ -189,33 +189,35 @@ class Input(io.FileIO):
     """A file, or standard input if its name is "-". It ends where it is over, and fails where nothing is there yet and nobody waits."""
 
     def __init__(self, name: str) -> None:
-        super().__init__(needed(STANDARD_INPUT) if name == "-" else name, closefd=name != "-")
-        self._shown = shown_of(name)
+        self.shown = STREAMS[STANDARD_INPUT] if name == "-" else name  #: its name, for a line
+        with self._named():
+            super().__init__(needed(STANDARD_INPUT) if name == "-" else name, closefd=name != "-")
+
+    @contextlib.contextmanager
+    def _named(self) -> Iterator[None]:
+        """Tells what fails by the name."""
+        try:
+            yield
+        except OSError as failure:
+            raise Stopped(f"{self.shown}: {cause_of(failure)}", FAILED) from None
 
     def readinto(self, room: Any) -> int:
-        count: Optional[int] = super().readinto(room)
-        if count is None:
-            raise BlockingIOError(errno.EAGAIN, "nothing is there yet, and it doesn't block", self._shown)
+        with self._named():
+            count: Optional[int] = super().readinto(room)
+            if count is None:
+                raise BlockingIOError(errno.EAGAIN, "nothing is there yet, and it doesn't block")
         return count
-
-
-def shown_of(name: str) -> str:
-    """The name of an input for a line."""
-    return STREAMS[STANDARD_INPUT] if name == "-" else name
 
 
 def open_response(name: str) -> io.BufferedReader:
     """A recorded response. Raises `Stopped` if it can't be read, or is something else."""
-    try:
-        file = io.BufferedReader(Input(name))
-        check_input(file.fileno(), "the response is")
-        head = file.peek(LONGEST_HEAD)
-    except OSError as failure:
-        raise Stopped(f"{shown_of(name)}: {cause_of(failure)}", FAILED) from None
-    other = other_than_response(head)
+    source = Input(name)
+    check_input(source.fileno(), "the response is")
+    file = io.BufferedReader(source)
+    other = other_than_response(file.peek(LONGEST_HEAD))
     if other:
         file.close()
-        raise Stopped(f"{shown_of(name)} is {other}", BAD_INPUT)
+        raise Stopped(f"{source.shown} is {other}", BAD_INPUT)
     return file
 
 
@@ -261,12 +263,17 @@ def check_input(source: Union[str, int], what: str) -> None:
             raise Stopped(f"{STREAMS[number]}: {what} read from it", REFUSED)
 
 
+def write(name: str, descriptor: int, data: bytes) -> None:
+    """Writes bytes. Raises `Stopped`, with the name of where they go, if they can't be written."""
+    try:
+        program.write_all(descriptor, data)
+    except OSError as failure:
+        raise Stopped(f"{name}: {cause_of(failure)}", FAILED) from None
+
+
 def put(text: str) -> None:
     """Writes to standard output. Raises `Stopped` if it can't be written."""
-    try:
-        program.write_all(needed(STANDARD_OUTPUT), text.encode("utf-8", "surrogateescape"))
-    except OSError as failure:
-        raise Stopped(f"{STREAMS[STANDARD_OUTPUT]}: {cause_of(failure)}", FAILED) from None
+    write(STREAMS[STANDARD_OUTPUT], needed(STANDARD_OUTPUT), text.encode("utf-8", "surrogateescape"))
 
 
 # Arguments.

@@ -80,11 +80,10 @@ class Table(outcomes.Table[Record]):
         except OSError:
             return False
 
-    def tell(self, outcome: Outcome) -> None:
+    def tell(self, it: Outcome) -> Record:
         """Gives a text its name, and writes the line."""
-        text, why = self.put(os.path.basename(outcome.file), outcome.waiting, outcome.status)
-        outcome = Outcome(outcome.file, FAILED, why) if why else outcome
-        self.add(Record(outcome.file, outcome.status, outcome.line, text, outcome.written, *outcome.stamp, self._options, outcome.program))
+        record = Record(it.file, it.status, it.line, None, it.written, *it.stamp, self._options, it.program)
+        return self.add(record, os.path.basename(it.file), it.waiting)
 
 
 def _inode_of(path: Union[str, int]) -> Optional[tuple[int, int]]:
@@ -226,8 +225,7 @@ def export_left(files: list[str], asked: argparse.Namespace) -> int:
         progress, failed = Progress("responses", len(files), len(files) - len(left)), 0
         try:
             for outcome in place.outcomes(left, asked.out, command, asked.charset if asked.adapt else None):
-                table.tell(outcome)
-                failed += outcome.status not in (DONE, SERVER_ERROR)
+                failed += table.tell(outcome).status not in (DONE, SERVER_ERROR)
                 progress.step(failed)
         finally:
             table.close()

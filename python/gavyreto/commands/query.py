@@ -34,7 +34,7 @@ from gavyreto.asking import Asking, Interrupt
 from gavyreto.commands import common
 from gavyreto.commands.common import (
     STANDARD_INPUT, STANDARD_OUTPUT, Input, Stopped, add_options_of_program, cause_of, check_input, checked_program, is_one_file, named, needed, number_in, parser_of,
-    shown_of, tell_all,
+    tell_all,
 )
 from gavyreto.connection import Secret, Session
 from gavyreto.logins import LONGEST_TOKEN
@@ -85,13 +85,10 @@ def times_of(digits: str) -> int:
 
 def lines_of(path: str) -> Iterator[str]:
     """The lines of a file of statements, or of standard input, in UTF-8, with or without a byte order mark."""
-    name = shown_of(path)
-    try:
-        with BufferedReader(Input(path)) as file:
-            for number, line in enumerate(file, 1):
-                yield _text_of(line, f"{name}, line {number}", number == 1)
-    except OSError as failure:
-        raise Stopped(f"{name}: {cause_of(failure)}", FAILED) from None
+    source = Input(path)
+    with BufferedReader(source) as file:
+        for number, line in enumerate(file, 1):
+            yield _text_of(line, f"{source.shown}, line {number}", number == 1)
 
 
 def _text_of(line: bytes, where: str, is_first: bool) -> str:
