@@ -16,7 +16,7 @@ from gavyreto import tds
 from gavyreto.errors import BadAnswer, CertificateRefused, ConnectionFailed, EncryptionRefused, Error, LoginRefused, TimedOut
 from gavyreto.logins import Hidden, Proof, Proving, checked_token, proof_of
 from gavyreto.tds import Encryption, PacketType
-from gavyreto.where import BROWSER, port_of
+from gavyreto.where import BROWSER, MORE, port_of
 
 SECONDS, LOGIN_SECONDS, MOST_SECONDS = 300, 15, 86400
 ENCRYPT = ("all", "login", "none")
@@ -593,6 +593,8 @@ def log_in_to(
         {"trust_server": trust_server, "integrated": integrated},
         {"port": (port, 1, 65535), "packet_size": (packet_size, tds.LEAST_PACKET_SIZE, tds.GREATEST_PACKET_SIZE),
          "seconds": (seconds, 0, MOST_SECONDS), "login_seconds": (login_seconds, 0, MOST_SECONDS)}, ("port", "packet_size"))
+    if MORE.search(server):
+        raise ValueError("server is a name, an address or a URL, and what is given is none")
     if encrypt not in ENCRYPT:
         raise ValueError(f"encrypt is one of {', '.join(ENCRYPT)}, not {encrypt}")
     if integrated + (access_token is not None) + bool(user or password) > 1:

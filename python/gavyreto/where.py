@@ -15,6 +15,7 @@ SCHEME = "mssql://"
 OF_URL = ("encrypt", "certificates", "certificate-name", "trust-server", "packet-size", "seconds", "login-seconds")
 YES, NO = ("", "1", "true", "yes"), ("0", "false", "no")  # what trust-server may be
 NO_PASSWORD = "a password stands in it, where others see it: put it into the variable SQLCMDPASSWORD, or type it when it is asked for"
+MORE = re.compile("[@;=]")  # what no name of a server has, and what stands before a password in texts that other programs connect by
 LONGEST_INSTANCE = 32  # bytes of a name (MC-SQLR, CLNT_UCAST_INST)
 ASK_ANEW = 1.0  # seconds after which a look-up is sent again: a datagram may be lost
 LONGEST_ANSWER = 1 << 16
@@ -41,9 +42,8 @@ def where(text: str) -> Where:
         return _of_url(text)
     name, comma, port = text[4 * (text[:4].lower() == "tcp:"):].partition(",")
     host, slash, instance = name.partition("\\")
-    if not host or "@" in host or "/" in name or slash and not instance:
-        shown = text if "@" not in name else "what is given"  # it may have a password
-        raise ValueError(f"{shown} is not HOST, HOST,PORT or HOST\\INSTANCE")
+    if not host or "/" in name or slash and not instance or MORE.search(text):
+        raise ValueError(f"{'what is given' if MORE.search(text) else text} is not HOST, HOST,PORT or HOST\\INSTANCE")
     if host.startswith("[") and host.endswith("]"):
         host = host[1:-1]
     host = "localhost" if host.lower() in (".", "(local)") else host
@@ -75,7 +75,8 @@ def _of_url(text: str) -> Where:
     named = next((value for name, value in asked if name == "instance"), "")
     rest = tuple((name, value) for name, value in asked if name != "instance")
     is_known = all(name in OF_URL for name, _ in rest) and all(value or name == "trust-server" for name, value in asked)
-    if not host or port == 0 or parts.fragment or "/" in parts.path[1:] or not is_known or len(dict(asked)) < len(asked):
+    is_more = MORE.search(parts.netloc.rpartition("@")[2] + parts.path)
+    if is_more or not host or port == 0 or parts.fragment or "/" in parts.path[1:] or not is_known or len(dict(asked)) < len(asked):
         raise ValueError(f"a URL is mssql://USER@HOST:PORT/DATABASE, and behind ? it may have instance, {', '.join(OF_URL)}, each once")
     return Where(name, port, named, user, database, rest)
 
