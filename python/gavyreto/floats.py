@@ -11,7 +11,7 @@ from gavyreto.scalars import doubles, singles
 from gavyreto.tds import DataType
 
 FLOATS = (DataType.FLT4, DataType.FLT8, DataType.FLTN)
-MOST_PLANS = 256  # that are remembered, by the bitmaps of their rows
+MOST_PLANNED = 1 << 15  # columns of the plans that are remembered, by the bitmaps of their rows
 FEW = 16  # rows that are converted value by value
 NULL_VALUE = b"\xFF\xFF"
 LENGTHS = [struct.pack("<H", length) for length in range(64)]  # before a text
@@ -174,7 +174,7 @@ class Rows:
         return at
 
     def _plan_of(self, bitmap: bytes) -> Plan:
-        if len(self._plans) > MOST_PLANS:
+        if len(self._plans) * len(self._described) > MOST_PLANNED:
             self._plans.clear()
         if bitmap not in self._plans:
             self._plans[bitmap] = plan_of(present(bitmap, self._described))

@@ -331,8 +331,8 @@ class LateDescriptions(Descriptions):
                 self._count += 1
         except (StopIteration, ValueError, Ended, OSError):
             return None
-        return self._found[place]
+        return self._found.get(place)
 
     def take(self, place: int) -> Optional[list[Column]]:
-        """Nothing: they are read again if they are asked for."""
-        return None
+        """The same if they were read already; others are read if somebody asks."""
+        return self._found.pop(place, None)

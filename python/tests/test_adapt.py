@@ -12,6 +12,7 @@ import struct
 import subprocess
 import sys
 import tempfile
+import tracemalloc
 import unittest
 from typing import Any, Optional
 from unittest import mock
@@ -155,6 +156,19 @@ class Adapted(unittest.TestCase):
             data = b"".join(tds.packets([responses.description(columns), *(responses.row_with_bitmap(columns, it) for it in values), served.done()], size))
             with self.subTest(infos=infos, rows=rows, size=size):
                 self.assertEqual(exported(adapted(data)), (0, text.encode()))
+
+    def test_rows_of_many_floats_in_little_memory(self) -> None:
+        """Each with other NULLs: what is remembered of them doesn't grow with the columns."""
+        numbers, count = random.Random(3), 10_000
+        rows = [numbers.getrandbits(count) for _ in range(30)]
+        body = b"\x81" + struct.pack("<H", count) + (bytes(4) + b"\x01\0\x6d\x08\0") * count
+        body += b"".join(b"\xD2" + row.to_bytes(count // 8, "little") + bytes(count - bin(row).count("1")) for row in rows) + served.done()
+        tracemalloc.start()
+        came = adapted(b"".join(tds.packets([body], 32767)))
+        peak = tracemalloc.get_traced_memory()[1]
+        tracemalloc.stop()
+        self.assertEqual(exported(came, "--column-room", "2000000")[1].count(b"\r\n"), 31)
+        self.assertLess(peak, 20_000_000)
 
     def test_responses_that_end_early(self) -> None:
         """What came before is written, so the program names the same place of the wire or the payload."""

@@ -381,6 +381,12 @@ class Connections(Live):
             kept = sum(1 for _ in answer)
             self.assertEqual((kept, [it.type for it in first.columns or []]), (1999, ["int"]))
             self.assertLess(len(cast(Any, answer)._descriptions._found), 10)
+        with gavyreto.export(sets, program=PROGRAM) as came:
+            found = [(rows, rows.columns) for rows in came]
+            self.assertEqual((len(found), [rows.columns for rows, _ in found]), (2000, [columns for _, columns in found]))
+            self.assertLess(len(cast(Any, came)._descriptions._found), 10)
+        late = [*gavyreto.export(sets, program=PROGRAM)]
+        self.assertEqual({str(rows.columns) for rows in late}, {str(found[0][1])})
 
     def test_arguments_that_are_none(self) -> None:
         for name, value in (

@@ -1,10 +1,13 @@
 """Tests of reading texts: values, rows, sets, and texts that are none."""
 from __future__ import annotations
 
+import gc
+import pickle
 import resource
 import subprocess
 import sys
 import tempfile
+import tracemalloc
 import unittest
 from datetime import date, datetime, time, timedelta, timezone
 from decimal import Decimal
@@ -13,6 +16,7 @@ from uuid import UUID
 
 import gavyreto
 from gavyreto.records import LONGEST
+from gavyreto.rows import row_type
 from gavyreto.text import Parser, Sets
 from tests.beside import responses
 
@@ -92,6 +96,20 @@ class Pieces(unittest.TestCase):
         header, row = ",".join(['"x"'] * 3000), ",".join(["1", '"a"', "NULL"] * 1000)
         (names, rows), = all_of(sets_of(f"{header}\r\n{row}\r\n{row}\r\n".encode(), 1000))
         self.assertEqual((len(names), rows), (3000, [[1, "a", None] * 1000] * 2))
+
+    def test_many_wide_sets(self) -> None:
+        """What is kept of those before doesn't grow with them; rows of two in turn have their types."""
+        text = b"\r\n".join(b",".join(b'"%d %d"' % (number, place) for place in range(5000)) + b"\r\n" for number in range(40))
+        tracemalloc.start()
+        sets = [0 for _ in sets_of(text)]
+        gc.collect()
+        held = tracemalloc.get_traced_memory()[0]
+        tracemalloc.stop()
+        self.assertEqual((len(sets), held < 10_000_000), (40, True), held)
+        for names in ([*map(str, range(3000))], ["a"]):
+            row, other = (row_type(tuple(names))(names) for _ in range(2))
+            self.assertIs(type(row), type(other))
+            self.assertEqual((pickle.loads(pickle.dumps(row)), type(pickle.loads(pickle.dumps(row)))), (row, type(row)))
 
     def test_a_long_value_is_held_once(self) -> None:
         """The peak of a process that reads a value of 200 MB, less than twice that."""
