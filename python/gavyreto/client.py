@@ -259,11 +259,7 @@ def connect(
     encrypted. Neither a ticket nor a token is sent without encryption."""
     password = Secret(password) if isinstance(password, str) else password
     access_token = Secret(access_token) if isinstance(access_token, str) else access_token
-    own: dict[str, Any] = {
-        "server": server, "user": user, "password": password, "port": port, "database": database,
-        "encrypt": encrypt, "certificates": certificates, "certificate_name": certificate_name, "trust_server": trust_server,
-        "packet_size": packet_size, "seconds": seconds, "login_seconds": login_seconds, "integrated": integrated,
-        "access_token": access_token}
+    own: dict[str, Any] = {**locals()}  # all arguments, by their names
     if isinstance(server, str) and server.lower().startswith(SCHEME):
         own |= _of_url(server)
     return Connection(log_in_to(**own))

@@ -59,11 +59,6 @@ def items_of(lines: Iterable[str], file: str) -> list[Item]:
     return list(found.values())
 
 
-def texts_of(item: Item) -> list[str]:
-    """The names that the text of an item may have."""
-    return [item.name + TEXT, item.name + PARTIAL]
-
-
 def _wrong_in(name: str, rest: str) -> str:
     """What is wrong with the name of a text, and what stands behind it; "" if nothing is."""
     if "/" in name or "\0" in name or name + TEXT == TABLE:

@@ -229,7 +229,7 @@ class Stream:
         """Compares a copy of what was handed out; as far as its receiver hadn't all of it, there has to be something to compare."""
         settled = max(self.acknowledged, self.start)
         self.early += max(min(piece.end(), self.start) - piece.place, 0)
-        self._compare(_up_to(piece, settled), self._sent)
+        self._compare(piece._replace(data=piece.data[:max(settled - piece.place, 0)]), self._sent)
         copy = _from(piece, settled)
         lacking = min(copy.end(), self.place) - copy.place - self._compare(copy, self._sent)
         length, checksum = self._sums.get(piece.place, (0, 0))
@@ -280,11 +280,6 @@ class Stream:
 def _from(piece: Piece, place: int) -> Piece:
     """What a piece has from a place on."""
     return piece._replace(place=max(place, piece.place), data=piece.data[max(place - piece.place, 0):])
-
-
-def _up_to(piece: Piece, place: int) -> Piece:
-    """What a piece has up to a place."""
-    return piece._replace(data=piece.data[:max(place - piece.place, 0)])
 
 
 def _first_after(pieces: list[Piece], place: int) -> int:

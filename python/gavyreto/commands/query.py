@@ -200,14 +200,14 @@ def ask(asked: argparse.Namespace, statements: Iterator[str], password: str) -> 
 
 def ask_tables(asked: argparse.Namespace, password: str) -> int:
     """Sends the statements of a file, each with a text under its name. Returns the greatest status."""
-    from gavyreto import tables
+    from gavyreto import outcomes, tables
 
     items = tables.items_of(lines_of(asked.tables), asked.tables)
     source = STANDARD_INPUT if asked.tables == "-" else asked.tables
     check_input(source, "the statements are")
     for item in items:
         encoded(item.statement)
-        if any(is_one_file(os.path.join(asked.output, name), source) for name in tables.texts_of(item)):
+        if any(is_one_file(os.path.join(asked.output, name), source) for name in (item.name + outcomes.TEXT, item.name + outcomes.PARTIAL)):
             raise Stopped(f"{asked.tables} would be the text of {item.name}: name another folder", REFUSED)
     password = password or password_of(asked)
     asked.options = f"-S {asked.server.host},{asked.server.port or asked.server.instance or PORT} -d {asked.database} --charset {asked.charset}{' --adapt' if asked.adapt else ''}"
