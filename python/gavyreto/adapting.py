@@ -10,7 +10,7 @@ from typing import Callable, Iterator, NamedTuple, Optional, cast
 from gavyreto import columns, floats, tds
 from gavyreto.columns import FIXED, Column, Described, Type
 from gavyreto.payload import (
-    Ended, Payload, Read, Write, after_rows, bytes_of_bitmap, cell, head_of_value, rest_of, ways_over,
+    Ended, Payload, Read, Write, after_rows, bytes_of_bitmap, cell, head_of_value, present, rest_of, ways_over,
 )
 from gavyreto.scalars import TEXTS, check_variant
 from gavyreto.tds import DataType, Token
@@ -230,10 +230,8 @@ class Adapter:
     def _row(self, byte: int) -> None:
         bitmap = self._payload.need(bytes_of_bitmap(byte, self._columns))
         self._output.keep(bytes([byte]) + bitmap)
-        bits = int.from_bytes(bitmap, "little")
-        for place, (column, new) in enumerate(zip(self._columns or [], self._adapted)):
-            if not bits >> place & 1:
-                self._value(column.type, new)
+        for column, new in present(bitmap, [*zip(self._columns or [], self._adapted)]):
+            self._value(column.type, new)
         self._whole_rows()
 
     def _value(self, type_: Type, new: Optional[Adapted]) -> None:

@@ -4,8 +4,8 @@ It judges nothing: the program tds_replay does. What it can't follow raises Valu
 from __future__ import annotations
 
 import threading
-from itertools import chain, islice
-from typing import Callable, Iterator, NamedTuple, Optional
+from itertools import chain, compress, islice
+from typing import Callable, Iterator, NamedTuple, Optional, TypeVar
 
 from gavyreto import columns, tds
 from gavyreto.columns import COUNTED, FIXED, LONG, Column, Described, Type
@@ -13,6 +13,7 @@ from gavyreto.tds import DataType, Token
 
 Read = Callable[[int], bytes]
 Write = Callable[[bytes], object]
+T = TypeVar("T")
 
 ROW, NBCROW = int(Token.ROW), int(Token.NBCROW)  # compared with once a row
 SHORT_NULL = 0xFFFF
@@ -110,10 +111,10 @@ def bytes_of_bitmap(byte: int, described: Optional[list[Described]]) -> int:
     return (len(described) + 7) // 8 if byte == NBCROW else 0
 
 
-def present(bitmap: bytes, described: list[Described]) -> list[Described]:
-    """The columns of a row whose values follow its bitmap: those whose bit is clear."""
+def present(bitmap: bytes, columns: list[T]) -> list[T]:
+    """What is said of the columns of a row whose values follow its bitmap: those whose bit is clear."""
     bits = int.from_bytes(bitmap, "little")
-    return [column for place, column in enumerate(described) if not bits >> place & 1] if bits else described
+    return list(compress(columns, map("0".__eq__, f"{bits:0{8 * len(bitmap)}b}"[::-1]))) if bits else columns
 
 
 def rest_of(payload: Payload, byte: int) -> Iterator[bytes]:
@@ -214,22 +215,16 @@ def after_rows(data: bytes, at: int, ways: list[int]) -> int:
     """Where the rows end that are whole in some bytes, from a place on at which a token begins."""
     if not ways:
         return at
+    before = 1 + (len(ways) + 7) // 8  # of an NBCROW
     try:
         while data[at] == ROW or data[at] == NBCROW:
-            end = after_values(data, at + 1, ways) if data[at] == ROW else after_values(data, *_present_ways(data, at + 1, ways))
+            end = after_values(data, at + 1, ways) if data[at] == ROW else after_values(data, at + before, present(data[at + 1:at + before], ways))
             if end > len(data):
                 break
             at = end
     except IndexError:
         pass  # this row isn't whole
     return at
-
-
-def _present_ways(data: bytes, at: int, ways: list[int]) -> tuple[int, list[int]]:
-    """Where the values of an NBCROW begin, and the ways over those that are there."""
-    end = at + (len(ways) + 7) // 8
-    bits = int.from_bytes(data[at:end], "little")
-    return end, [way for place, way in enumerate(ways) if not bits >> place & 1]
 
 
 def after_values(data: bytes, at: int, ways: list[int]) -> int:
