@@ -10,51 +10,50 @@ use Rattle.std.proofs.lemmas.List.{drop-append-le, drop-set-add, take-set-le}
 not_last : (rest : List Column) → 0 < length rest → false ≡ N.is_last_column rest
 not_last _ some = grind arith
 
--- The formats are those of the next columns, which are the row's last if the formats end it.
-pub record AreNext (formats : List CellFormat) (ends : Bool) (columns : List Column) : Type 0 where
-  pub kinds_are : N.map (λ f. f.kind) formats ≡ N.map (λ c. c.kind) (take (length formats) columns)
-  pub ends_are : ends ≡ (length formats == length columns)
+-- the formats are those of the next columns, which are the row's last if the formats end it
+module _ (formats : List CellFormat) (ends : Bool) (columns : List Column)
+    (kinds_are : N.map (λ f. f.kind) formats ≡ N.map (λ c. c.kind) (take (length formats) columns)) (ends_are : ends ≡ (length formats == length columns))
+  where
+    few : length formats ≤ length columns
+    few = grind (arith, N.length-map, N.length-take)
 
-module _ (formats : List CellFormat) (ends : Bool) (columns : List Column) (next : AreNext formats ends columns) where
-  few : length formats ≤ length columns
-  few = grind (arith, N.length-map, N.length-take)
+    -- the column after this many is the last where the formats say so
+    last_of : (k : ℕ) (c : Column) (rest : List Column) → k < length formats → drop k columns ≡ c ∷ rest
+        → (ends && (k + 1 == length formats)) ≡ N.is_last_column rest
+    last_of k c rest within step = go _ refl
+      where
+        go : (b : Bool) → (length formats == length columns) ≡ b → (ends && (k + 1 == length formats)) ≡ N.is_last_column rest
+        go N.true e = ap (λ v. v && (k + 1 == length formats)) (ends_are ∙ e)
+            ∙ N.RowFormatSteps.last_one columns rest c k _ (N.eq_true _ _ e) step
+        go false e = ap (λ v. v && (k + 1 == length formats)) (ends_are ∙ e) ∙ not_last rest (more (N.eq_false _ _ e))
+          where
+            more : length formats ≢ length columns → 0 < length rest
+            more isnt = omega (arith, few, ap length step, N.length-drop k columns)
 
-  -- the column after this many is the last where the formats say so
-  last_of : (k : ℕ) (c : Column) (rest : List Column) → k < length formats → drop k columns ≡ c ∷ rest
-      → (ends && (k + 1 == length formats)) ≡ N.is_last_column rest
-  last_of k c rest within step = go _ refl
-    where
-      go : (b : Bool) → (length formats == length columns) ≡ b → (ends && (k + 1 == length formats)) ≡ N.is_last_column rest
-      go N.true e = ap (λ v. v && (k + 1 == length formats)) (next.ends_are ∙ e)
-          ∙ N.RowFormatSteps.last_one columns rest c k _ (N.eq_true _ _ e) step
-      go false e = ap (λ v. v && (k + 1 == length formats)) (next.ends_are ∙ e) ∙ not_last rest (more (N.eq_false _ _ e))
-        where
-          more : length formats ≢ length columns → 0 < length rest
-          more isnt = omega (arith, few, ap length step, N.length-drop k columns)
+    module _ (k : ℕ) (d : CellFormat) (within : k < length formats) where
+      abbrev next_column : Column
+      next_column = get_or columns k (record { kind = d.kind; name = [] })
 
-  module _ (k : ℕ) (d : CellFormat) (within : k < length formats) where
-    abbrev next_column : Column
-    next_column = get_or columns k (record { kind = d.kind; name = [] })
+      step : drop k columns ≡ next_column ∷ drop (k + 1) columns
+      step = grind (arith, N.drop_more, few)
 
-    step : drop k columns ≡ next_column ∷ drop (k + 1) columns
-    step = grind (arith, N.drop_more, few)
+      kind_is : (get_or formats k d).kind ≡ next_column.kind
+      kind_is = N.RowFormatSteps.known_kind _ _ _ k d _ (ap (N.map _) (N.take_all _ formats (omega arith))
+          ∙ kinds_are) within (omega arith) (omega (arith, few))
 
-    kind_is : (get_or formats k d).kind ≡ next_column.kind
-    kind_is = N.RowFormatSteps.known_kind _ _ _ k d _ (ap (N.map _) (N.take_all _ formats (omega arith))
-        ∙ next.kinds_are) within (omega arith) (omega (arith, few))
-
-    -- the cell after this many
-    next_cell : {charset : Charset} {all : List Column} (column : ℕ) {bytes text : List ℕ} → columns ≡ drop column all
-        → N.WritesKind charset (get_or formats k d).kind (column + k) (ends && (k + 1 == length formats)) bytes text
-        → N.WritesColumn charset all (λ k. false) (column + k) bytes text
-    next_cell _ is x = grind (arith, N.drop-drop, kind_is, last_of, step)
+      -- the cell after this many
+      next_cell : {charset : Charset} {all : List Column} (column : ℕ) {bytes text : List ℕ} → columns ≡ drop column all
+          → N.WritesKind charset (get_or formats k d).kind (column + k) (ends && (k + 1 == length formats)) bytes text
+          → N.WritesColumn charset all (λ k. false) (column + k) bytes text
+      next_cell _ is x = grind (arith, N.drop-drop, kind_is, last_of, step)
 
 pub some_first : (formats : List CellFormat) → 0 < length formats → (format : CellFormat) × (rest : List CellFormat) × (formats ≡ format ∷ rest)
 some_first [] some = grind arith
 some_first (f ∷ fs) _ = (f, fs, refl)
 
-module _ (charset : Charset) (formats : List CellFormat) (column : ℕ) (ends : Bool) (columns : List Column) (next : AreNext formats ends
-    (drop column columns))
+module _ (charset : Charset) (formats : List CellFormat) (column : ℕ) (ends : Bool) (columns : List Column)
+    (kinds_are : N.map (λ f. f.kind) formats ≡ N.map (λ c. c.kind) (take (length formats) (drop column columns)))
+    (ends_are : ends ≡ (length formats == length (drop column columns)))
   where
     -- whether so many cells end their row
     abbrev closes : ℕ → Bool
@@ -74,7 +73,7 @@ module _ (charset : Charset) (formats : List CellFormat) (column : ℕ) (ends : 
           x.4,
           ap (λ l. l ++ end_after last) x.5 ∙ N.append_assoc x.2 _ _,
           w,
-          next_cell _ _ _ next n d (omega arith) _ refl (x.7 d _ last),
+          next_cell _ _ _ kinds_are ends_are n d (omega arith) _ refl (x.7 d _ last),
         )
 
     not_closed : {n : ℕ} → n < length formats → closes n ≡ false
@@ -300,9 +299,7 @@ fields_run {charset = charset} {formats = formats} {column = column} {ends = end
     record {
       within = omega arith;
       ends = grind arith;
-      cells = λ columns kinds_are ends_are.
-          let next : AreNext formats ends (drop column columns) = record { kinds_are = kinds_are; ends_are = ends_are } in
-          grind (arith, run_marked);
+      cells = grind (arith, run_marked);
     }
 
 -- its field, of at most 11, and the comma after it leave room for those of the others

@@ -1,10 +1,6 @@
 -- Cells by how their values are laid out.
 use Rattle.tds_cells.proofs as N
-use N.{◌&&◌, ◌≡◌, ℕ, ◌+◌, ◌<◌, true, List, length, arith, Kind, CellFormat, Layout, Each}
-use Rattle.tds_cells.specs.LongFields.{LongWritten}
-use Rattle.tds_cells.specs.CellTexts.{CellWritten}
-use Rattle.tds_values.specs.declared.kind.Reach.{Reach}
-use Rattle.tds_values.specs.declared.span.Span.{Span}
+use N.{◌&&◌, ◌≡◌, ℕ, ◌<◌, true, List, length, arith, Kind, CellFormat, Layout, Each}
 use Rattle.tds_cells.specs.declared.layout.Layout.TheVariants.{Chunked, Counted, Fixed, Short as ShortLayout}
 
 pub each_all : (P : CellFormat → Type 0) (n : ℕ) (f : CellFormat) → P f → Each P (N.replicate n f)
@@ -30,9 +26,6 @@ HasValueAt (Fixed k) bytes start n = (start ≡ 0) × (n ≡ k)
 HasValueAt Counted bytes start n = (start ≡ 1) × (n ≡ N.slice_index bytes 0)
 HasValueAt layout bytes start n = ⊥
 
-pub fixed_there : {l : Layout} (bytes : List ℕ) {start : ℕ × ℕ} {n : ℕ} → l ≡ Fixed n → start ≡ (0, n) → HasValueAt l bytes start.0 start.1
-fixed_there _ is there = grind arith
-
 -- after a length of one byte
 pub counted_there : {l : Layout} (bytes : List ℕ) {start : ℕ × ℕ} → l ≡ Counted → start ≡ (1, N.slice_index bytes 0)
     → HasValueAt l bytes start.0 start.1
@@ -43,17 +36,6 @@ module _ (charset : N.Charset) (kind : Kind) where
   pub value_there : (l : Layout) (bytes : List ℕ) (start n : ℕ) → N.IsLaidOut charset kind l → HasValueAt l bytes start n → (N.is_scalar kind ≡ true)
       × ((start ≡ N.value_start kind) × (n ≡ N.value_length kind bytes))
   value_there l _ _ n laid h = grind arith
-
-  -- ---- a cell that is left, and a short value
-
-  -- how many bytes its cell has
-  pub short_whole : (content : N.Content) (bytes : List ℕ) → N.IsLaidOut charset kind (ShortLayout content) → 2 + N.data_length bytes ≡ N.whole_size kind bytes
-  short_whole _ _ laid = grind arith
-
--- a long value was written, and so the cell of a kind that is one
-pub long_laid : (charset : N.Charset) (kind : Kind) (c : N.Conversion) (reach : Reach) (bytes text : List ℕ) (room : ℕ) (result : N.Option Span)
-    → N.shape charset kind ≡ N.LongShape c reach → LongWritten c reach bytes room text result → CellWritten charset kind bytes room text result
-long_laid _ _ _ _ _ _ _ _ is x = grind arith
 
 -- where there are no bytes, a cell is left
 pub empty_left : (charset : N.Charset) (kind : Kind) (l : Layout) (bytes : List ℕ) (room : ℕ) → N.IsLaidOut charset kind l

@@ -13,7 +13,7 @@ pub use Rattle.std.specs.Iterator.{YieldsFirstBy}
 pub use Rattle.std.specs.List.{concat, list_all}
 pub use Rattle.std.specs.Option.{option_map_or}
 pub use Rattle.std.specs.Prelude.{◌==◌, if◌then◌else◌, slice_set, ◌||◌, is_ok, ◌&&◌, None, slice_index, Option, nat_le, map, codes, Some, nat_lt}
-pub use Rattle.tds_columns.proofs.ByteLemmas.{one_byte, little-two, two_bytes}
+pub use Rattle.tds_columns.proofs.ByteLemmas.{one_byte, two_bytes}
 pub use Rattle.tds_columns.proofs.ViewLaws.{all_after}
 pub use Rattle.tds_columns.specs.Description.{Column}
 pub use Rattle.tds_columns.specs.View.{columns_of}
@@ -52,7 +52,7 @@ pub use Rattle.tds_cells.specs.Rows.{SpellsRow, row, NbcRow, row_so_far, with_fi
 pub use Rattle.tds_cells.specs.Rows.{next_cell}
 pub use Rattle.tds_cells.specs.Runs.{KnownRan, rows_so_far, lines, rows, Writes, after_cells, RowsPart}
 pub use Rattle.tds_cells.specs.Runs.{WritesRows}
-pub use Rattle.tds_cells.specs.LongFields.{HasOneChunk, IsLongLeft, LongWritten, chunk_end, chunks_size, data_length, long_size}
+pub use Rattle.tds_cells.specs.LongFields.{HasOneChunk, IsLongLeft, LongWritten, chunk_end, chunks_size, long_size}
 pub use Rattle.tds_cells.specs.RowFormats.{BeginsRow, IsCursor, AreAtCursor, Knows, NextColumn, place}
 pub use Rattle.tds_cells.specs.WholeCells.{WritesCell, WritesWhole}
 pub use Rattle.tds_cells.specs.declared.layout.CellFormat.{CellFormat}
@@ -72,7 +72,7 @@ pub use Rattle.tds_values.specs.Numbers.{little}
 pub use Rattle.tds_values.specs.Scalar.{read_of}
 pub use Rattle.tds_values.specs.declared.charset.Charset.{Charset}
 pub use Rattle.tds_values.specs.declared.kind.Kind.{Kind}
-pub use Rattle.tds_values.specs.declared.kind.Kind.TheVariants.{IntN, Wide}
+pub use Rattle.tds_values.specs.declared.kind.Kind.TheVariants.{Wide}
 pub use Rattle.tds_values.specs.declared.kind.Reach.TheVariants.{Short, Chunked}
 pub use Rattle.tds_values.specs.declared.scalar.ScalarValue.{ScalarValue}
 pub use Rattle.tds_values.specs.declared.scalar.ValueFault.{ValueFault}
