@@ -34,7 +34,7 @@ class Connection(Single, contextlib.AbstractContextManager["Connection"]):
         answer, self._answer = self._answer, None
         try:
             if answer:
-                answer.__exit__(kind)
+                answer.close()
             if not kind:
                 self._session.end()
         finally:
@@ -43,8 +43,7 @@ class Connection(Single, contextlib.AbstractContextManager["Connection"]):
                 self._program.close()
 
     def close(self) -> None:
-        """Closes the connection. Raises an error behind rows of the last answer, if it wasn't raised yet, and BadAnswer if the server sent
-        more than it was asked for."""
+        """Closes the connection. Raises BadAnswer if the server sent more than it was asked for."""
         self.__exit__(None)
 
     def query(
@@ -55,15 +54,12 @@ class Connection(Single, contextlib.AbstractContextManager["Connection"]):
         answer has to be read to its end before the next statement; a connection whose answer isn't is closed with it.
 
         Raises ValueError if the answer before isn't read, another thread asks, or the statement is no Unicode, OSError if the program
-        can't be started, ConnectionFailed, BadAnswer if bytes have come that weren't asked for, and before it asks an error behind
-        rows of the answer before, if it wasn't raised yet."""
+        can't be started, ConnectionFailed, and BadAnswer if bytes have come that weren't asked for."""
         if not self._lock.acquire(blocking=False):
             raise ValueError("another thread asks on this connection")
         try:
             if self._answer and not self._answer.is_left:
                 raise ValueError("the answer before isn't read to its end")
-            if self._answer:
-                self._answer.close()
             check_dates(dates)
             run = self._run_of(command_of(program, self._session.packet_size, column_room, max_wire, charset))
             run.begin()
@@ -112,14 +108,14 @@ class Cursor(contextlib.AbstractContextManager["Cursor"]):
         self._answer: Optional[Answer] = None
         self._set: Optional[ResultSet] = None
 
-    def __exit__(self, kind: object, *_: object) -> None:
-        answer, self._answer, self._set = self._answer, None, None
-        if answer:
-            answer.__exit__(kind)
+    def __exit__(self, *_: object) -> None:
+        self.close()
 
     def close(self) -> None:
-        """Leaves the answer, of which no more is handed out. Raises an error behind rows that were, if it wasn't raised yet."""
-        self.__exit__(None)
+        """Leaves the answer, of which no more is handed out."""
+        answer, self._answer, self._set = self._answer, None, None
+        if answer:
+            answer.close()
 
     def execute(self, statement: str, parameters: object = None, **options: Any) -> Cursor:
         """Asks, with the options of `Connection.query`. Parameters aren't filled in: they raise NotSupportedError."""

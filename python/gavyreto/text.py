@@ -269,9 +269,9 @@ class TextFile(Opened, io.TextIOBase):
 class ResultSet(Single):
     """An iterator over the rows of one set, each a tuple with a value for each column, which `row.name` gives too.
 
-    All calls take rows from one buffer, from its one place on. Rows that came before an error are handed out first, but by those that
-    give all: the error comes with the next call, or with the end of the context. It is read from the same text as the set after it:
-    asking for the next set passes over the rows left here, and asking for them after that raises `PassedOver`."""
+    All calls take rows from one buffer, from its one place on. A call that has fewer rows than it is asked for at an error raises that, and
+    the rows before it are left for other calls, as for iteration. It is read from the same text as the set after it: asking for the next
+    set passes over the rows left here, and asking for them after that raises `PassedOver`."""
 
     def __init__(self, sets: Sets, place: int, names: list[str], is_only: bool) -> None:
         self.names = names  #: of the columns, as the server gave them: some may be "" or equal
@@ -309,14 +309,13 @@ class ResultSet(Single):
         return next(self._rows, None) if self._gathered(1) else None
 
     def fetchmany(self, size: Optional[int] = None) -> list[Row]:
-        """The next rows: so many, or `arraysize` without a number, and fewer at the end (PEP 249)."""
+        """The next rows: so many, or `arraysize` without a number, and fewer at the end alone (PEP 249): an error is raised in place of fewer
+        rows, which are left. Raises ValueError for a number below 0."""
         return self._sets._guarded(lambda: self._many(self.arraysize if size is None else size))
 
     def _many(self, size: int) -> list[Row]:
-        rows: list[Row] = []
-        while size > len(rows) and self._gathered(1, rows):
-            rows += islice(self._rows, size - len(rows))
-        return rows
+        self._gathered(size)
+        return list(islice(self._rows, size))
 
     def fetchall(self) -> list[Row]:
         """The rows that are left (PEP 249). An error is raised in place of rows that aren't all; those before it are left."""
@@ -359,8 +358,8 @@ class ResultSet(Single):
         return next(self._rows)
 
     def batches(self, size: int) -> Iterator[Columns]:
-        """The rows by columns: a list for each column, with so many values each time, and fewer at the end. Raises ValueError
-        if the size is less than 1."""
+        """The rows by columns: a list for each column, with so many values each time, and fewer at the end alone, as `fetchmany` gives
+        them. Raises ValueError if the size is less than 1."""
         if size < 1:
             raise ValueError(f"a batch has at least 1 row, not {size}")
         return iter(lambda: self._sets._guarded(lambda: self._batch(size)), [])
@@ -431,19 +430,13 @@ class ResultSet(Single):
 
     # The buffer: some rows by columns, and the place up to which they were handed out.
 
-    def _gathered(self, count: int, before: Sequence[Row] = ()) -> int:
-        """Sees to it that so many rows are in the buffer, as far as they come, and returns how many are. Raises what ended the reading
-        if there are none, also none of the same call before."""
-        is_told = bool(self._sets._failure) and not self._sets._is_untold
-        try:
-            while length_hint(self._first) < count and not self._is_over:
-                self._extend()
-        except Error:
-            if not length_hint(self._first) and not before:
-                raise
-            self._sets._is_untold = not is_told
+    def _gathered(self, count: int) -> int:
+        """Sees to it that so many rows are in the buffer, or all that are left of a set that is whole, and returns how many are. Raises what
+        ended the reading if it did before."""
+        while length_hint(self._first) < count and not self._is_over:
+            self._extend()
         left = length_hint(self._first)
-        if not left and not before:
+        if not left:
             self._check_passed_over()
         return left
 
@@ -522,7 +515,6 @@ class Sets(Single):
         self._is_within = False  # whether a value is open as a file, within its row; who drops one closes it
         self._rows_before = 0  # of the sets before the current one
         self._failure: Optional[BaseException] = None
-        self._is_untold = False  # whether rows before the failure were handed out, and it wasn't raised since
         self._is_closed = self._is_ended = self._is_only = False  # only: whether there may be one set alone
         self._lock, self._process = threading.RLock(), os.getpid()
 
@@ -540,8 +532,6 @@ class Sets(Single):
         return self
 
     def __exit__(self, kind: object, *_: object) -> None:
-        if kind:
-            self._is_untold = False
         self.close()
 
     def __iter__(self) -> Sets:
@@ -560,11 +550,9 @@ class Sets(Single):
             self._raise(NotOneSet("no result set"))
 
     def close(self) -> None:
-        """Ends the reading where it is. What is left isn't judged; an error behind rows that were handed out is raised, if it wasn't yet."""
+        """Ends the reading where it is. What is left isn't judged."""
         self._is_closed = True
         self._release()
-        if self._is_untold:
-            self._raise_again()
 
     def _check_closed(self) -> None:
         """Sees to it that nothing is read past a value that is open."""
@@ -666,9 +654,8 @@ class Sets(Single):
 
     def _raise_again(self) -> NoReturn:
         assert self._failure
-        if self._is_untold and isinstance(self._failure, Error):
+        if isinstance(self._failure, Error):
             self._failure.rows = self.rows
-        self._is_untold = False
         raise self._failure
 
     def _end_by(self, failure: BaseException) -> None:

@@ -191,14 +191,11 @@ class Reading:
         if call == 0:
             row = rows.fetchone()
             return [row[0]] if row else []
-        if call == 1:
-            return [row[0] for row in rows.fetchmany(size)]
-        if call == 2:
+        if call <= 3:
+            calls = rows.fetchall, lambda: rows.fetchmany(size), lambda: zip(*next(rows.batches(size), []))
             with contextlib.suppress(gavyreto.Error):  # then they are left
-                return [row[0] for row in rows.fetchall()]
-            return [row[0] for row in rows.fetchmany(10**6)]
-        if call == 3:
-            return [value for batch in islice(rows.batches(size), 2) for value in batch[0]]
+                return [row[0] for row in calls[call - 1]()]
+            size = 1
         return [row[0] for row in islice(rows, size)]
 
     def read_by_two(self, rows: ResultSet) -> None:

@@ -112,7 +112,7 @@ with test_readings.serving(test_readings.ORDERED, beside.wire("broken", 5)) as p
         rows.frame()
     except gavyreto.ServerError as error:
         print(error.number)
-    print([(row.id, type(row.id).__name__) for row in rows.fetchmany(9)])
+    print([(row.id, type(row.id).__name__) for row in rows.fetchmany(5)])
 """
 KINDS = {
     "tinyint": "UInt8", "smallint": "Int16", "int": "Int32", "bigint": "Int64", "bit": "UInt8", "char": "string", "nchar": "string", "varchar": "string",

@@ -42,14 +42,20 @@ class Rows(unittest.TestCase):
     """All calls take from one buffer, from one place on."""
 
     def test_rows_before_an_error_are_handed_out(self) -> None:
-        """The error comes with the next call, each time, and with the end of the context if nobody has seen it."""
+        """The error comes with the next call, each time, and in place of fewer rows than are asked for, which are left."""
         data = wire("broken", 5)
         whole = [(1, 2, 3, 1, 2)[place] for place in range(5)]
         cases: list[list[Callable[[Any], Any]]] = [
-            [lambda rows: rows.fetchmany(3), lambda rows: rows.fetchmany(9)], [lambda rows: rows.fetchmany(9)],
-            [lambda rows: [rows.fetchone() for _ in range(5)]], [lambda rows: list(zip(*next(rows.batches(3)))), lambda rows: rows.fetchmany(9)],
-            [lambda rows: list(zip(*next(rows.batches(100))))], [lambda rows: list(islice(rows, 4)), lambda rows: rows.fetchmany(2)],
+            [lambda rows: rows.fetchmany(3), lambda rows: rows.fetchmany(2)], [lambda rows: [rows.fetchone() for _ in range(5)]],
+            [lambda rows: list(zip(*next(rows.batches(3)))), lambda rows: fewer(rows, 3), lambda rows: rows.fetchmany(2)],
+            [lambda rows: fewer(rows, 100), lambda rows: list(islice(rows, 4)), lambda rows: fewer(rows, 2), lambda rows: rows.fetchmany(1)],
         ]
+
+        def fewer(rows: Any, count: int) -> list[Any]:
+            for call in rows.fetchmany, lambda count: next(rows.batches(count)):
+                self.assertRaises(gavyreto.ServerError, call, count)
+            return []
+
         for calls in cases:
             with gavyreto.export(data, program=PROGRAM) as came:
                 rows: Any = next(came)
@@ -61,11 +67,8 @@ class Rows(unittest.TestCase):
                     with self.assertRaises(gavyreto.ServerError) as raised:
                         again()
                     self.assertEqual(raised.exception.rows, 5)
-        with self.assertRaises(gavyreto.ServerError), gavyreto.export(data, program=PROGRAM) as came:
-            self.assertEqual(len(next(came).fetchmany(9)), 5)
-        with self.assertRaises(KeyError), gavyreto.export(data, program=PROGRAM) as came:
-            next(came).fetchmany(9)
-            raise KeyError
+        self.assertRaises(gavyreto.ServerError, gavyreto.export(data, program=PROGRAM).only().fetchmany, 9)  # nobody asks again
+        self.assertRaises(ValueError, gavyreto.export(data, program=PROGRAM).only().fetchmany, -1)
 
     def test_all_rows_are_all_or_an_error(self) -> None:
         """Whoever asks for all doesn't ask again: the error comes in their place, each time, and they are left for other calls."""
@@ -79,10 +82,11 @@ class Rows(unittest.TestCase):
                     with self.assertRaises(kind) as raised:
                         rows.fetchall()
                     self.assertEqual((raised.exception.rows, came.rows), (taken, taken))
-                self.assertEqual(len(first + rows.fetchmany(9)), count)
+                self.assertEqual(len(first + rows.fetchmany(count - taken)), count)
                 came.close()  # it was raised already
-                with self.assertRaises(kind):
+                with self.assertRaises(kind) as raised:
                     rows.fetchmany(9)
+                self.assertEqual(raised.exception.rows, count)
 
     def test_calls_in_any_order_give_each_row_once(self) -> None:
         """Batches that are left, rows one by one, some and all: against the rows in their order."""
@@ -467,30 +471,20 @@ class DatabaseApi(Live):
             cursor = connection.cursor()
             with self.assertRaises(gavyreto.NotSupportedError):
                 cursor.execute("x", (1,))
-            self.assertEqual(len(cursor.execute("x").fetchmany(3)), 2)
-            with self.assertRaises(gavyreto.ServerError):
-                cursor.close()
+            self.assertEqual(len(cursor.execute("x").fetchmany(2)), 2)
+            self.assertRaises(gavyreto.ServerError, cursor.fetchmany, 3)
+            cursor.close()
             connection.close()
         self.assertEqual((gavyreto.apilevel, gavyreto.threadsafety), ("2.0", 1))
 
     def test_an_error_behind_rows(self) -> None:
-        """Whatever follows on the connection raises it, once."""
+        """It is raised once they don't suffice, and what follows on the connection is as without it."""
         failed = answered(*responses.order_rows(0), served.done(tds.MORE), served.server_error(1, "no", 1), served.done(tds.FAILED))
-        ways: list[Callable[[Any, Any], object]] = [
-            lambda connection, _: connection.close(), lambda connection, _: connection.__exit__(None, None, None), lambda connection, _: connection.commit(),
-            lambda connection, _: connection.query("x", program=PROGRAM), lambda _, cursor: cursor.close(), lambda _, cursor: cursor.execute("x", program=PROGRAM),
-        ]
-        for number, way in enumerate(ways):
-            with self.subTest(number), serving(failed, ORDERED) as port, connected(port) as connection:
-                cursor = connection.cursor().execute("x", program=PROGRAM)
-                self.assertEqual(len(cursor.fetchmany(9)), 3)
-                with self.assertRaises(gavyreto.ServerError):
-                    way(connection, cursor)
-                if number > 1:
-                    self.assertEqual(len(connection.query("x", program=PROGRAM).only().fetchall()), 3)
-        with serving(failed) as port, self.assertRaises(KeyError), connected(port) as connection:
-            connection.query("x", program=PROGRAM).only().fetchmany(9)
-            raise KeyError
+        with serving(failed, ORDERED) as port, connected(port) as connection:
+            cursor = connection.cursor().execute("x", program=PROGRAM)
+            self.assertRaises(gavyreto.ServerError, cursor.fetchmany, 9)
+            self.assertEqual(len(cursor.fetchmany(3)), 3)
+            self.assertEqual(len(cursor.execute("x", program=PROGRAM).fetchmany(9)), 3)
 
     def test_a_cursor_that_is_closed(self) -> None:
         with serving(ORDERED) as port, connected(port) as connection:
