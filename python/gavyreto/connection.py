@@ -59,6 +59,7 @@ class Channel:
         self._is_within = False  # whether a part of a record of TLS has come, and not its rest
         self._left = float(seconds)
         self._until, self._why = 0.0, ""  # the end of a limit, and what is told then
+        self._process = os.getpid()
 
     def wait(self) -> None:
         """Begins to wait for what comes next."""
@@ -215,12 +216,15 @@ class Channel:
         """What follows isn't encrypted."""
         self.tls = None
 
+    def is_own(self) -> bool:
+        """Whether the connection is this process's, and not that of one which this was forked off from."""
+        return os.getpid() == self._process
+
     def close(self) -> None:
-        """Closes the connection; who waits for it in another thread finds that it has ended."""
-        try:
-            self.socket.shutdown(socket.SHUT_RDWR)
-        except OSError:
-            pass  # it was closed before, or by the other side
+        """Closes the connection; who waits for it in another thread finds that it has ended. One of another process stays open there."""
+        if self.is_own():
+            with contextlib.suppress(OSError):  # it was closed before, or by the other side
+                self.socket.shutdown(socket.SHUT_RDWR)
         self.socket.close()
 
 
@@ -444,7 +448,6 @@ class Session(contextlib.AbstractContextManager["Session"]):
         self._framing: Optional[tds.Framing] = None  # of the answer under way
         self._unsent: Optional[OSError] = None  # what ended the sending of a statement whose answer may have come
         self._is_sending = self._is_interrupted = self._is_early = False  # early: before the statement was sent
-        self._process = os.getpid()
 
     def __exit__(self, *_: object) -> None:
         self.close()
@@ -461,7 +464,7 @@ class Session(contextlib.AbstractContextManager["Session"]):
 
     def end(self) -> None:
         """Closes the connection once all answers are read. Raises BadAnswer if more has come than them."""
-        if self.closed_after is None and self.is_ready():
+        if self.closed_after is None and self.is_ready() and self._channel.is_own():
             surplus = self._channel.finish(AT_THE_END)
             self.close()
             if surplus:
@@ -471,7 +474,7 @@ class Session(contextlib.AbstractContextManager["Session"]):
     @contextlib.contextmanager
     def _open(self) -> Iterator[None]:
         """What is done while the connection is open. Whatever ends it early closes the connection; a process that was forked off is refused."""
-        if os.getpid() != self._process:
+        if not self._channel.is_own():
             raise ConnectionFailed("the connection is another process's")
         if self.closed_after is not None:
             raise ConnectionFailed(f"the connection was closed after: {self.closed_after}")

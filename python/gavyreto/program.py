@@ -10,6 +10,7 @@ import select
 import shutil
 import subprocess
 import time
+import weakref
 from typing import IO, Callable, NamedTuple, Optional, Union, cast
 
 from gavyreto.errors import FAULT, SERVER_ERROR as LINE_OF_ERROR, Fault, Report, ServerError
@@ -215,6 +216,7 @@ class Program(contextlib.AbstractContextManager["Program"]):
         self._open: set[int] = set()  # those of text and lines that haven't ended
         self._lines, self._taken, self._handed = "", 0, 0  # of this response
         self._said: Said = None  # once its lines have come
+        _programs.add(self)
 
     def __exit__(self, *_: object) -> None:
         self.close()
@@ -271,6 +273,14 @@ class Program(contextlib.AbstractContextManager["Program"]):
         """Ends it, so that who hands over in another thread finds it."""
         if self._process:
             self._process.kill()
+
+    def let_go(self) -> None:
+        """Has no part in it any more, in a process that was forked off: with a copy of a pipe it would go on for ever."""
+        process, self._process, self._pipe, self._open = self._process, None, None, set()
+        if process:
+            process.returncode = DONE
+            for pipe in filter(None, (process.stdin, process.stdout, process.stderr)):
+                pipe.close()
 
     # Handing over.
 
@@ -408,3 +418,7 @@ class Program(contextlib.AbstractContextManager["Program"]):
         if status is not None or not self.ending.said:
             self.is_reading = False
             self.kill()
+
+
+_programs: weakref.WeakSet[Program] = weakref.WeakSet()  # of this process
+os.register_at_fork(after_in_child=lambda: [it.let_go() for it in _programs])

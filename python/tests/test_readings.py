@@ -7,6 +7,7 @@ import io
 import os
 import pickle
 import random
+import signal
 import socket
 import tempfile
 import threading
@@ -252,6 +253,31 @@ class Rows(unittest.TestCase):
                 with self.subTest(number):
                     self.assertEqual(os.waitpid(process, 0)[1], 0)
             self.assertEqual(len(rows.fetchall()), 99_999)
+
+    def test_a_process_that_is_forked_off_has_no_part(self) -> None:
+        """It leaves the contexts, by which nothing of the other one ends, and goes on, which nothing waits for."""
+        (source, sink), (left, leaves) = os.pipe(), os.pipe()
+        with serving(ORDERED, ORDERED) as port, connected(port) as connection, connection.query("x", program=PROGRAM) as answer:
+            os.write(sink, wire("kinds", 20, 512)[:4000])
+            cut, rows = gavyreto.export(source, program=PROGRAM).only(), next(answer)
+            if not (process := os.fork()):
+                os.close(sink)
+                with contextlib.suppress(BaseException), connection, answer:
+                    raise KeyError
+                os.close(leaves)
+                time.sleep(20)
+                os._exit(0)
+            os.close(sink)
+            os.close(leaves)
+            self.assertEqual(os.read(left, 1), b"")
+            self.assertRaises(gavyreto.Fault, cut.fetchall)
+            self.assertEqual((len(rows.fetchall()), next(answer, None)), (3, None))
+            self.assertEqual(len(connection.query("x", program=PROGRAM).only().fetchall()), 3)
+            self.assertEqual(os.waitpid(process, os.WNOHANG), (0, 0))
+            os.kill(process, signal.SIGKILL)
+            os.waitpid(process, 0)
+        os.close(source)
+        os.close(left)
 
     def test_the_time_is_linear(self) -> None:
         """Text with many quotes, in a column before one that is NULL in the first block only: twice the text takes about twice the time."""
