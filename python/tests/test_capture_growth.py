@@ -1,16 +1,22 @@
 """Tests of `capture` by what would take long, or much memory: work and memory don't grow with what comes in no good order."""
 from __future__ import annotations
 
+import argparse
 import tempfile
 import time
 import tracemalloc
 import unittest
 from collections.abc import Iterable, Iterator
+from pathlib import Path
+from typing import cast
+from unittest import mock
 
 from gavyreto.capturing import keeping
 from gavyreto.capturing.accounts import Accounts
 from gavyreto.capturing.connections import Connections
+from gavyreto.capturing.desk import Sides
 from gavyreto.capturing.files import Frame
+from gavyreto.commands import capture
 from tests.capture_cases import ACK, SPACE, Segment, packets
 from tests.test_capture_cases import Desk
 from tests.test_capture_frames import RAW
@@ -108,6 +114,16 @@ class Memory(unittest.TestCase):
         """Those that are followed take a few kilobytes each; others about one."""
         first, second = self.peaks(list(self.resting(2400)))
         self.assertLess(second - first, 1200 * 2000)
+
+    def test_connections_whose_texts_are_not_counted(self) -> None:
+        """The numbers of so many are kept; another one goes on behind the texts that are there."""
+        with tempfile.TemporaryDirectory() as folder, mock.patch.object(capture, "MOST_COUNTED", 3):
+            export, names = capture.Export(argparse.Namespace(out=folder), cast(keeping.Room, None)), list[str]()
+            for number in range(40):
+                names.append(export._next_name(Sides("abcde"[number * number % 5], "s")))
+                Path(folder, names[-1] + (".csv", ".csv.partial")[number % 2]).touch()
+            self.assertEqual((len(export._counts), sorted(names)), (3, sorted({*names})))
+            self.assertEqual({name[0]: max(int(it[4:]) for it in names if it[0] == name[0]) for name in names}, {it: sum(name[0] == it for name in names) for it in "abe"})
 
     def test_an_answer_beside_many(self) -> None:
         """Its first bytes tell what it is, also where others have all the memory and each of its pieces goes into a file."""

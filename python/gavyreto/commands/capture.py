@@ -21,6 +21,7 @@ from __future__ import annotations
 import argparse
 import contextlib
 import errno
+import itertools
 import os
 import signal
 import tempfile
@@ -45,6 +46,7 @@ from gavyreto.program import BAD_INPUT, FAILED, REFUSED, SERVER_ERROR, Ending, j
 from gavyreto.tds import PacketType
 
 HEADER = ("text", "client", "server", "time", "statement", "status", "line")
+MOST_COUNTED = 1 << 14  # connections whose number of texts is kept
 EPOCH = datetime(1970, 1, 1, tzinfo=timezone.utc)
 
 
@@ -68,7 +70,7 @@ class Export:
     def __init__(self, asked: argparse.Namespace, room: Room) -> None:
         self.worst = 0
         self._asked, self._room = asked, room
-        self._counts: dict[str, int] = {}
+        self._counts: dict[str, int] = {}  # of the texts of the connections that had one last
 
     def keep(self) -> Kept:
         """Where the packets of an answer go."""
@@ -136,8 +138,13 @@ class Export:
 
     def _next_name(self, sides: Sides) -> str:
         stem = f"{sides.client}-{sides.server}".replace(":", "_") if sides.client else "answer"
-        number = self._counts[stem] = self._counts.get(stem, 0) + 1
-        return f"{stem}.{number}"
+        number = self._counts.pop(stem, 0)
+        if not number and len(self._counts) >= MOST_COUNTED:  # it may have had some
+            path = os.path.join(self._asked.out, stem)
+            number = next(it for it in itertools.count() if not any(os.path.lexists(f"{path}.{it + 1}{end}") for end in (".csv", ".csv.partial")))
+            del self._counts[next(iter(self._counts))]
+        self._counts[stem] = number + 1
+        return f"{stem}.{number + 1}"
 
     def _put(self, text: Optional[str], sides: Sides, time: int, statement: str, status: int, said: str) -> None:
         put(line((text, sides.client or None, sides.server or None, moment_of(time), statement or None, status, said)))
