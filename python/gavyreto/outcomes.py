@@ -92,7 +92,7 @@ class Table(Generic[R]):
                 raise Stopped(f"{name}: the lines are written to it", REFUSED)
         self.records = {key: record for key, record in self.records.items() if key not in again and record.text not in texts}
         with open(self._path + UNFINISHED, "wb") as out:
-            out.write(self._header + b"".join(map(_line_of, self.records.values())))
+            write(out.name, out.fileno(), self._header + b"".join(map(_line_of, self.records.values())))
         os.replace(out.name, self._path)
         self._descriptor = os.open(self._path, os.O_WRONLY | os.O_APPEND | os.O_CLOEXEC)
 
@@ -150,6 +150,8 @@ def locked(folder: str) -> Iterator[None]:
     try:
         fcntl.flock(descriptor, fcntl.LOCK_EX | fcntl.LOCK_NB)
         yield
+        if not os.path.samestat(os.fstat(descriptor), os.stat(folder)):
+            raise Stopped(f"{folder}: another folder has its name now", FAILED)
     except BlockingIOError:
         raise Stopped(f"{folder}: another command writes its texts there", REFUSED) from None
     finally:

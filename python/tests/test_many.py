@@ -18,6 +18,7 @@ from collections.abc import Callable, Iterator
 
 from gavyreto import outcomes, tds
 from gavyreto.commands import many
+from gavyreto.commands.common import Stopped
 from tests import test_adapt
 from tests.beside import PROGRAM, ROOT, SECONDS, answered, is_waiting, need, responses, running_in, served, skip, started, wait_for, wire
 
@@ -436,6 +437,17 @@ class Here(Many):
             self.let(ALL)
             self.assertEqual(first.wait(SECONDS), 0)
             first.communicate()
+
+    def test_a_folder_that_is_replaced(self) -> None:
+        """Texts and table would be in two."""
+        folder = self.path("out")
+        for replaced in (lambda: os.mkdir(folder)), (lambda: None):
+            os.mkdir(folder)
+            with self.assertRaisesRegex((Stopped, FileNotFoundError), f"{folder}: another folder has its name now|No such file"), outcomes.locked(folder):
+                os.rename(folder, folder + ".before")
+                replaced()
+            shutil.rmtree(folder, ignore_errors=True)
+            os.rmdir(folder + ".before")
 
     def test_a_full_disk_leaves_no_text(self) -> None:
         self.store(1)
