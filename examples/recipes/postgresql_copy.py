@@ -21,5 +21,6 @@ def copied(value):
     return "NULL" if value is None else f"{value:f}" if isinstance(value, Decimal) else str(value)
 
 
+sys.stdout.reconfigure(encoding="utf-8")  # whatever the environment says
 for row in gavyreto.export(sys.argv[1]).only():
     print(",".join(map(copied, row)))

@@ -7,9 +7,10 @@ Needs: `python3`.
 An empty line separates two sets. But a value can also hold an empty line, so the text is read as CSV: only where a record ends,
 an empty line is the end of a set. A row never looks so, since each value has at least one character: NULL is `NULL`, empty text
 is `""`, and an empty binary value is `0x`. The lines are written as they were read, so quotes, `NULL` and line ends stay as they
-are. It prints nothing."""
+are. It prints nothing, or a line with what is wrong, with status 1."""
 import csv
 import sys
+from contextlib import ExitStack
 
 csv.field_size_limit(2**31 - 1)
 sys.stdin.reconfigure(encoding="utf-8", newline="")
@@ -23,13 +24,19 @@ def lines():
 
 
 number, out = 0, None
-for record in csv.reader(lines(), strict=True):
-    if not record:
-        out.close()
-        out = None
-    else:
-        if out is None:
-            number += 1
-            out = open(f"set{number}.csv", "w", encoding="utf-8", newline="")
-        out.writelines(lines_of_record)
-    lines_of_record.clear()
+try:
+    with ExitStack() as stack:
+        for record in csv.reader(lines(), strict=True):
+            if not lines_of_record[-1].endswith("\r\n"):
+                sys.exit("the text ends within a row")
+            if not record:
+                stack.close()
+                out = None
+            else:
+                if out is None:
+                    number += 1
+                    out = stack.enter_context(open(f"set{number}.csv", "w", encoding="utf-8", newline=""))
+                out.writelines(lines_of_record)
+            lines_of_record.clear()
+except (OSError, csv.Error) as stop:
+    sys.exit(f"set{number}.csv: {stop}")

@@ -65,6 +65,15 @@ class Loads(unittest.TestCase):
         back = [[Decimal(value) if isinstance(old, Decimal) else value for value, old in zip(row, rows)] for row, rows in zip(read, sent)]
         self.assertEqual(repr(back), repr(sent))
 
+    def test_sets_that_are_split(self) -> None:
+        """What isn't written, or isn't whole, is told, also of the last set."""
+        script = os.path.join(ROOT, "examples", "recipes", "split_sets.py")
+        for place, text, wrong in ("set2.csv", b'"a"\r\n1\r\n\r\n"b"\r\n2\r\n', b"No space left"), ("x", b'"a"\r\n"x', b"end"), ("x", b'"a"\r\n12', b"ends within a row"):
+            with self.subTest(text), tempfile.TemporaryDirectory() as folder:
+                os.symlink("/dev/full", os.path.join(folder, place))
+                came = subprocess.run([sys.executable, script], cwd=folder, input=text, stderr=subprocess.PIPE, check=False)
+                self.assertEqual((came.returncode, came.stderr.count(b"\n"), wrong in came.stderr), (1, 1, True), came.stderr)
+
     def test_postgresql(self) -> None:
         columns, sent = kinds()
         types = [postgresql_type(column) for column in columns]
