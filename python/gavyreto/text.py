@@ -280,7 +280,8 @@ class ResultSet(Single):
         self._sets, self._place, self._is_only = sets, place, is_only
         self._described: Optional[list[Column]] = None  # once the set is left
         self._values: Columns = []  # of the buffer
-        self._first: Iterator[Value] = iter(())  # those of the first column that weren't handed out
+        self._places: list[Any] = []  # an iterator for each column of it, all of them at the place
+        self._first: Iterator[Value] = iter(())  # that of the first column
         self._rows: Iterator[Row] = iter(())
         self._before = 0  # rows of the buffers before
         self._is_over = self._is_passed_over = False
@@ -386,9 +387,9 @@ class ResultSet(Single):
                 self._go_to(len(self._values[0]))
             return made()
         except (Error, ValueError) as failure:
-            handed_out, self._values = self._handed_out(), taken()
+            handed_out = self._handed_out()
+            self._hold(taken())
             self._before = handed_out - len(self._values[0])
-            self._go_to(0)
             if isinstance(failure, Error):
                 failure.rows = self._sets.rows
             raise
@@ -452,18 +453,21 @@ class ResultSet(Single):
             for values, others in zip(self._values, more):
                 del values[:handed_out]
                 values += others
+            self._go_to(0)
         else:
-            self._values = more
+            self._hold(more)
         self._before += handed_out
-        self._go_to(0)
+
+    def _hold(self, values: Columns) -> None:
+        """Has other rows in the buffer. Whoever iterates over those that it had finds no more of them."""
+        self._go_to(sys.maxsize)
+        self._values, self._places = values, [iter(column) for column in values]
+        self._first, self._rows = self._places[0] if values else iter(()), map(self._row, zip(*self._places))
 
     def _go_to(self, place: int) -> None:
-        """Goes to a place in the buffer."""
-        columns = [iter(values) for values in self._values]
-        for it in columns if place else ():
-            it.__setstate__(place)  # type: ignore[attr-defined]
-        self._first = columns[0] if columns else iter(())
-        self._rows = map(self._row, zip(*columns)) if columns else iter(())
+        """Goes to a place in the buffer, with all that iterate over it."""
+        for it in self._places:
+            it.__setstate__(place)
 
     def _handed_out(self) -> int:
         """How many rows were handed out."""
@@ -471,8 +475,8 @@ class ResultSet(Single):
 
     def _drop(self) -> None:
         """Hands out nothing more: which rows the caller has isn't known."""
-        self._before, self._values, self._is_over = self._handed_out(), [], False
-        self._go_to(0)
+        self._before, self._is_over = self._handed_out(), False
+        self._hold([])
 
     def _leave(self) -> None:
         """Passes over the rows that are left."""
@@ -481,8 +485,8 @@ class ResultSet(Single):
             more = self._sets._next_rows(self._is_only)
             self._is_over = more is None
             left += len(more[0]) if more else 0
-        self._before, self._values, self._is_passed_over = handed_out, [], left > 0
-        self._go_to(0)
+        self._before, self._is_passed_over = handed_out, left > 0
+        self._hold([])
         if self._sets._descriptions:
             self._described = self._sets._descriptions.take(self._place)
 

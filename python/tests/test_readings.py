@@ -90,7 +90,7 @@ class Rows(unittest.TestCase):
                 self.assertEqual(raised.exception.rows, count)
 
     def test_calls_in_any_order_give_each_row_once(self) -> None:
-        """Batches that are left, rows one by one, some and all: against the rows in their order."""
+        """Batches and iterators that are kept, rows one by one, some and all: against the rows in their order."""
         numbers = random.Random(5)
         for step in (7, 300, 1 << 16):
             for _ in range(60):
@@ -98,10 +98,13 @@ class Rows(unittest.TestCase):
                     rows: Any = came.only()
                     found: list[int] = []
                     walks = [rows.batches(numbers.choice((1, 7, 100, 1000))), rows.batches(3)]
+                    kept = [iter(rows), iter(rows)]
                     while len(found) < 500:
-                        call = numbers.randrange(5)
+                        call = numbers.randrange(7)
                         if call == 0:
                             found += [row[0] for row in rows.fetchmany(numbers.choice((0, 1, 30, 200)))]
+                        elif call > 4:
+                            found += [row[0] for row in islice(kept[call - 5], numbers.choice((1, 50)))]
                         elif call == 1:
                             found += [row.a for row in islice(rows, numbers.choice((1, 50)))]
                         elif call == 2:
@@ -110,6 +113,13 @@ class Rows(unittest.TestCase):
                         else:
                             found += next(walks[call - 3], [[]])[0]
                     self.assertEqual((found, came.rows), (list(range(500)), 500))
+
+    def test_an_iterator_of_a_set_that_is_left(self) -> None:
+        """It has no rows of its own."""
+        with text_of(b'"a"\r\n1\r\n2\r\n\r\n"b"\r\n') as came:
+            rows = iter(next(came))
+            self.assertEqual((next(rows), next(came).names), ((1,), ["b"]))
+            self.assertRaises(gavyreto.PassedOver, next, rows)
 
     def test_what_ends_a_reading_from_elsewhere(self) -> None:
         """After an interrupt no row is missing without a word: the reading has failed, at this call and each further one."""
