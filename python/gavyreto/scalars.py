@@ -17,6 +17,9 @@ TIME_LENGTHS = (3, 3, 3, 4, 4, 5, 5, 5)  # bytes of a time, by its scale
 DAYS_LENGTH, OFFSET_LENGTH = 3, 2
 SAFE_DIGITS = 6  # of a real, that all have
 LEAST_NORMAL = 2.0**-126  # of the reals
+# The powers of two whose shortest texts aren't the nearest ones of so many digits.
+SHORTER = {"1.26217745e-29": "1.2621775e-29", "1.54742505e+26": "1.5474251e+26", "1.23794004e+27": "1.2379401e+27"}
+SHORTER |= {"-" + long: "-" + short for long, short in SHORTER.items()}
 
 
 def decimal_text(units: int, scale: int) -> str:
@@ -73,7 +76,7 @@ def singles(values: Sequence[float]) -> list[str]:
     texts = [""] * len(values)
     _spell(texts, values, list(range(len(values))), SAFE_DIGITS)
     _spell(texts, values, [place for place, value in enumerate(values) if 0 < abs(value) < LEAST_NORMAL], 1)
-    return [text if "." in text and "e" not in text else repr(float(text)) for text in texts]
+    return [SHORTER.get(it, it) for it in (text if "." in text and "e" not in text else repr(float(text)) for text in texts)]
 
 
 def _spell(texts: list[str], values: Sequence[float], places: list[int], digits: int) -> None:
@@ -123,8 +126,6 @@ TEXTS: dict[int, Callable[[bytes, int], str]] = {
     DataType.FLT8: lambda data, _: doubles(struct.unpack("<d", data))[0],
     DataType.FLT4: lambda data, _: singles(struct.unpack("<f", data))[0],
 }
-
-
 # How many bytes of properties a base type of a sql_variant has, if it has some (MS-TDS, sql_variant Values).
 PROPERTIES: dict[int, int] = {
     DataType.TIME: 1, DataType.DATETIME2: 1, DataType.DATETIMEOFFSET: 1, DataType.DECIMAL: 2, DataType.NUMERIC: 2, DataType.VARBINARY: 2,

@@ -14,6 +14,7 @@ import sys
 import tempfile
 import tracemalloc
 import unittest
+from decimal import Decimal
 from typing import Any, Optional
 from unittest import mock
 
@@ -60,8 +61,10 @@ def refused_text() -> bytes:
 def shortest_real(data: bytes) -> str:
     """The text of a real with the fewest digits that reads back to it."""
     value, = struct.unpack("<f", data)
-    texts = (f"{value:.{digits}g}" for digits in range(1, 10))
-    return next(repr(float(text)) for text in texts if abs(float(text)) < 3.5e38 and struct.pack("<f", float(text)) == data)
+    nearest = [Decimal(f"{value:.{digits}g}") for digits in range(1, 10)]
+    steps = [Decimal((0, (1,), it.adjusted() - digits)) for digits, it in enumerate(nearest)]
+    texts = (str(it + way * step) for it, step in zip(nearest, steps) for way in (0, 1, -1))
+    return next(repr(float(text)) for text in texts if abs(float(text)) < 3.40282356e38 and struct.pack("<f", float(text)) == data)
 
 
 def payload_of(data: bytes) -> bytes:
@@ -118,6 +121,7 @@ class Adapted(unittest.TestCase):
             cell = responses.fixed if len(type_info) == 2 else responses.short
             column = responses.Column("x", type_info, cell, responses.as_it_is, bytes)
             values = [it for it in (numbers.randbytes(size) for _ in range(3000)) if struct.unpack(form, it)[0] == struct.unpack(form, it)[0]]
+            values += [struct.pack(form, sign * 2.0**power) for sign in (1, -1) for power in range(-149, 128)]
             rows = b"".join(responses.row([column], [value]) for value in values)
             status, text = exported(adapted(b"".join(tds.packets([responses.description([column]), rows, served.done()], 4096))))
             came = [line.strip('"') for line in text.decode().split("\r\n")[1:-1]]
