@@ -93,9 +93,8 @@ class Connection(Single, contextlib.AbstractContextManager["Connection"]):
 
     def _ask(self, statement: str) -> None:
         program = self._program.command[0] if self._program else PROGRAM
-        with self.query(statement, program=program) as answer:
-            for _ in answer:
-                pass
+        for _ in self.query(statement, program=program):
+            pass
 
 
 class Cursor(contextlib.AbstractContextManager["Cursor"]):

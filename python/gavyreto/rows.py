@@ -8,7 +8,6 @@ from typing import TYPE_CHECKING, Any
 
 from gavyreto.values import Value
 
-
 FEW = 1000  # columns: the types of sets with more take megabytes each
 
 

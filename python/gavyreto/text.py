@@ -20,8 +20,6 @@ from gavyreto.values import BINARY, FLOAT, NULL, QUOTE, Converter, Dates, Value,
 
 TO_ZEROS, TO_COMMAS = bytes.maketrans(b"123456789", b"000000000"), bytes.maketrans(b"\n", b",")
 SEVERAL = "several sets: split them first, as docs/RECIPES.md has it in \"Several result sets\""
-
-
 Columns = list[list[Value]]  # the values of some rows, by columns
 Described = tuple[str, Optional[str], None, Optional[int], Optional[int], Optional[int], Optional[bool]]
 
@@ -149,14 +147,11 @@ class Parser:
 
     def _row_of(self, fields: Sequence[Union[str, LongField]]) -> list[Value]:
         self._check_width(len(fields))
-        return [self._value(converter, field) for converter, field in zip(self._converters, fields)]
+        return [it.value(field) if isinstance(field, str) else it.long_value(field.value, field.shape) for it, field in zip(self._converters, fields)]
 
     def _check_width(self, width: int) -> None:
         if width != len(self._converters):
             raise ValueError(f"a row has {width} fields, and its header {len(self._converters)}")
-
-    def _value(self, converter: Converter, field: Union[str, LongField]) -> Value:
-        return converter.value(field) if isinstance(field, str) else converter.long_value(field.value, field.shape)
 
     # A row of which one value is read by somebody else, in pieces.
 
@@ -304,10 +299,7 @@ class ResultSet(Single):
 
     def fetchone(self) -> Optional[Row]:
         """The next row, or None after the last one (PEP 249)."""
-        return self._sets._guarded(self._following)
-
-    def _following(self) -> Optional[Row]:
-        return next(self._rows, None) if self._gathered(1) else None
+        return self._sets._guarded(lambda: next(self._rows, None) if self._gathered(1) else None)
 
     def fetchmany(self, size: Optional[int] = None) -> list[Row]:
         """The next rows: so many, or `arraysize` without a number, and fewer at the end alone (PEP 249): an error is raised in place of fewer

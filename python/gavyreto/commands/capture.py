@@ -27,6 +27,7 @@ import signal
 import tempfile
 from collections.abc import Iterable
 from datetime import datetime, timedelta, timezone
+from pathlib import Path
 from typing import Optional, cast
 
 from gavyreto import tds
@@ -89,7 +90,7 @@ class Export:
         if self._asked.adapt:
             self._adapt(packets)
         if data is not None:
-            ending, text = self._room.export(contents(packets) if self._asked.adapt else data)
+            ending, text = self._room.export(Path(packets).read_bytes() if self._asked.adapt else data)
         else:
             run = kept.piped() or self._room.run(packets or kept.file())
             status, notes = run.end()
@@ -157,12 +158,6 @@ class Export:
 
     def _count(self, status: int) -> None:
         self.worst = max(self.worst, status if status in (0, SERVER_ERROR, BAD_INPUT) else FAILED)
-
-
-def contents(path: str) -> bytes:
-    """The bytes of a file."""
-    with open(path, "rb") as file:
-        return file.read()
 
 
 def moment_of(time: int) -> Optional[str]:
