@@ -421,4 +421,4 @@ class Program(contextlib.AbstractContextManager["Program"]):
 
 
 _programs: weakref.WeakSet[Program] = weakref.WeakSet()  # of this process
-os.register_at_fork(after_in_child=lambda: [it.let_go() for it in _programs])
+os.register_at_fork(after_in_child=lambda: list(map(Program.let_go, _programs)))

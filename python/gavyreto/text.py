@@ -20,6 +20,8 @@ from gavyreto.values import BINARY, FLOAT, NULL, QUOTE, Converter, Dates, Value,
 
 TO_ZEROS, TO_COMMAS = bytes.maketrans(b"123456789", b"000000000"), bytes.maketrans(b"\n", b",")
 SEVERAL = "several sets: split them first, as docs/RECIPES.md has it in \"Several result sets\""
+T = TypeVar("T")
+S = TypeVar("S", bound="Sets")
 Columns = list[list[Value]]  # the values of some rows, by columns
 Described = tuple[str, Optional[str], None, Optional[int], Optional[int], Optional[int], Optional[bool]]
 
@@ -334,6 +336,9 @@ class ResultSet(Single):
         return frame_of(self, lambda frame: pyarrow.Table.from_pandas(frame, preserve_index=False))
 
     def __iter__(self) -> Iterator[Row]:
+        return chain(self._each_row(), iter(self.fetchone, None))  # the second raises again what has ended the first
+
+    def _each_row(self) -> Iterator[Row]:
         is_more = True
         while is_more:
             try:
@@ -491,9 +496,6 @@ def _file_of(value: Value) -> Union[None, io.BytesIO, io.StringIO]:
     if isinstance(value, str):
         return io.StringIO(value)
     raise ValueError(f"{value!r} has neither bytes nor text")
-
-
-T = TypeVar("T")
 
 
 class Sets(Single):
@@ -665,9 +667,6 @@ class Sets(Single):
 
     def _release(self) -> None:
         """Closes what is read from."""
-
-
-S = TypeVar("S", bound=Sets)
 
 
 class Text(Sets):

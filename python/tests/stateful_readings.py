@@ -192,7 +192,7 @@ class Reading:
             row = rows.fetchone()
             return [row[0]] if row else []
         if call <= 3:
-            calls = rows.fetchall, lambda: rows.fetchmany(size), lambda: zip(*next(rows.batches(size), []))
+            calls: list[Callable[[], Any]] = [rows.fetchall, lambda: rows.fetchmany(size), lambda: zip(*next(rows.batches(size), []))]
             with contextlib.suppress(gavyreto.Error):  # then they are left
                 return [row[0] for row in calls[call - 1]()]
             size = 1

@@ -64,7 +64,8 @@ class Rows(unittest.TestCase):
                 self.assertEqual(found, whole)
                 agains: list[Callable[[], Any]] = [
                     rows.fetchall, rows.fetchone, lambda: next(rows), lambda: list(rows), lambda: next(rows.batches(1)), lambda: next(came)]
-                for again in agains:
+                kept = iter(rows)
+                for again in [*agains, lambda: next(kept), lambda: list(kept)]:
                     with self.assertRaises(gavyreto.ServerError) as raised:
                         again()
                     self.assertEqual(raised.exception.rows, 5)
