@@ -369,7 +369,6 @@ LACKING = {
     Encryption.NOT_SUPPORTED: "the server, or somebody between, doesn't encrypt: the password would be readable on the way. "
                               "--encrypt none allows it",
 }
-
 NO_TICKETS = "the server, or somebody between, doesn't encrypt: neither a ticket nor a token is sent to it"
 
 

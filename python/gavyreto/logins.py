@@ -7,6 +7,7 @@ from typing import Any, Callable, Optional
 from gavyreto.errors import ConnectionFailed
 
 LONGEST_TOKEN = 40_000  # characters
+Proving = Callable[[str, int], "Proof"]  # by host and port
 
 
 class Hidden(bytes):
@@ -97,6 +98,3 @@ def checked_token(token: str) -> str:
     if not token or not token.isascii() or len(token) > LONGEST_TOKEN or any(it <= " " for it in token):
         raise ValueError(f"an access token has letters, digits and signs of ASCII, {LONGEST_TOKEN} at most, and nothing between them")
     return token
-
-
-Proving = Callable[[str, int], Proof]

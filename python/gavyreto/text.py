@@ -164,10 +164,14 @@ class Parser:
             return None
         self.records.put_back(self._block[self._at:])
         self._block, self._at, self._is_long = "", 0, False
-        for _ in range(place):
-            pass_over(self.records.open_field())
+        for passed in range(place):
+            pass_over(self._opened(passed))
             if self.records.end_of_field() != ",":
                 raise ValueError("a row has fewer fields than its header")
+        return self._opened(place)
+
+    def _opened(self, place: int) -> Union[Held, OpenField]:
+        """The next field, which is that of a column. Raises ValueError if it isn't like those before it."""
         field, converter = self.records.open_field(), self._converters[place]
         if isinstance(field, str):
             return Held(converter.value(field))
@@ -180,7 +184,7 @@ class Parser:
         """Passes over what is left of a row after the column that was read."""
         width = place + 1
         while self.records.end_of_field() == ",":
-            pass_over(self.records.open_field())
+            pass_over(self._opened(min(width, len(self._converters) - 1)))
             width += 1
         self._check_width(width)
         self.rows += 1
@@ -192,7 +196,7 @@ class Held(NamedTuple):
     value: Value
 
 
-def pass_over(field: Union[str, OpenField]) -> None:
+def pass_over(field: Union[Held, OpenField]) -> None:
     for _ in field.pieces if isinstance(field, OpenField) else ():
         pass
 

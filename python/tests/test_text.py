@@ -175,6 +175,13 @@ class ByColumns(unittest.TestCase):
                         self.assertEqual(rows.fetchall(), [(3,)])
                     else:
                         self.assertRaises(gavyreto.MalformedText, rows.fetchall)
+        for row in b'?,"x",1', b'1,"x",?', b'NULL,"x",1.5':  # also in the columns that are passed over
+            with self.subTest(row), sets_of(b'"a","b","c"\r\n1,"x",1\r\n' + row + b"\r\n", 5) as came, self.assertRaises(gavyreto.MalformedText):
+                rows = came.only()
+                for _ in range(2):
+                    file = rows.open("b")
+                    assert file
+                    file.close()
         for text, count in ((b'"a","b"\r\n1,2\r\n1,2,3\r\n', 1), (b'"a","b"\r\nNULL\r\n', 0)):  # a row that is none is none that was handed out
             with sets_of(text, 5) as came:
                 rows = next(came)
