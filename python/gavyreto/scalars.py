@@ -17,9 +17,8 @@ TIME_LENGTHS = (3, 3, 3, 4, 4, 5, 5, 5)  # bytes of a time, by its scale
 DAYS_LENGTH, OFFSET_LENGTH = 3, 2
 SAFE_DIGITS = 6  # of a real, that all have
 LEAST_NORMAL = 2.0**-126  # of the reals
-# The powers of two whose shortest texts aren't the nearest ones of so many digits.
 SHORTER = {"1.26217745e-29": "1.2621775e-29", "1.54742505e+26": "1.5474251e+26", "1.23794004e+27": "1.2379401e+27"}
-SHORTER |= {"-" + long: "-" + short for long, short in SHORTER.items()}
+SHORTER |= {"-" + long: "-" + short for long, short in SHORTER.items()}  # powers of two whose shortest texts aren't the nearest
 
 
 def decimal_text(units: int, scale: int) -> str:

@@ -381,13 +381,16 @@ class ResultSet(Single):
         return self._sets._guarded(lambda: self._each(take, taken, made))
 
     def _each(self, take: Callable[[Columns], object], taken: Callable[[], Columns], made: Callable[[], T]) -> T:
+        is_all = False
         try:
             while self._gathered(1):
                 at = len(self._values[0]) - length_hint(self._first)
                 take([values[at:] for values in self._values] if at else self._values)
                 self._go_to(len(self._values[0]))
+            is_all = True
             return made()
         except (Error, ValueError) as failure:
+            self._sets._kept = failure if is_all else None
             handed_out = self._handed_out()
             self._hold(taken())
             self._before = handed_out - len(self._values[0])
@@ -517,6 +520,7 @@ class Sets(Single):
         self._is_within = False  # whether a value is open as a file, within its row; who drops one closes it
         self._rows_before = 0  # of the sets before the current one
         self._failure: Optional[BaseException] = None
+        self._kept: Optional[BaseException] = None  # what came where all rows had come, which are there again
         self._is_closed = self._is_ended = self._is_only = False  # only: whether there may be one set alone
         self._lock, self._process = threading.RLock(), os.getpid()
 
@@ -623,7 +627,7 @@ class Sets(Single):
 
     def _stepped(self, step: Callable[[], T]) -> T:
         if self._failure:
-            self._raise_again()
+            self._raise(self._failure)
         if self._is_closed and not self._is_ended:
             raise ValueError("the reading was closed")
         try:
@@ -654,15 +658,13 @@ class Sets(Single):
         self._release()
         raise failure
 
-    def _raise_again(self) -> NoReturn:
-        assert self._failure
-        if isinstance(self._failure, Error):
-            self._failure.rows = self.rows
-        raise self._failure
-
     def _end_by(self, failure: BaseException) -> None:
-        """What an exception means that came while rows were read: one from elsewhere makes the reading a failed one."""
-        if not self._failure and not isinstance(failure, (Error, StopIteration, GeneratorExit, ValueError)):
+        """What an exception means that came while rows were read: one from elsewhere, as of a signal's handler, makes the reading a failed one."""
+        place = failure.__traceback__
+        while place and place.tb_next:
+            place = place.tb_next
+        is_own = place and place.tb_frame.f_globals is globals() and isinstance(failure, (Error, StopIteration, GeneratorExit, ValueError))
+        if not self._failure and not is_own and failure is not self._kept:
             self._failure = Interrupted(f"the reading was ended by {type(failure).__name__}: rows may be missing")
             self._failure.sets, self._failure.rows = self.sets, self.rows
             if self._current:

@@ -29,7 +29,7 @@ from lib import certificates, packing, sample_responses, served as served  # noq
 
 from gavyreto import tds  # noqa: E402
 from gavyreto.connection import Channel  # noqa: E402
-from gavyreto.errors import Interrupted  # noqa: E402
+from gavyreto.errors import Interrupted, MalformedText  # noqa: E402
 
 responses = sample_responses  # by the names that tests call them
 certificate_in, context_of = certificates.certificate_in, certificates.context_of
@@ -102,8 +102,9 @@ def running_in(folder: str) -> list[str]:
     return found
 
 
-def interrupted(at: int, call: Callable[[], object]) -> bool:
-    """Makes a call, to which an interrupt comes at a line of the package, by its number, if there are so many. Returns whether one came."""
+def interrupted(at: int, call: Callable[[], object], raised: BaseException = KeyboardInterrupt()) -> bool:
+    """Makes a call, to which an interrupt, or what the handler of another signal raises, comes at a line of the package, by its number, if
+    there are so many. Returns whether one came."""
     steps = 0
 
     def step(frame: Any, event: str, _: object) -> Any:
@@ -112,7 +113,7 @@ def interrupted(at: int, call: Callable[[], object]) -> bool:
             return step
         steps += 1
         if steps == at:
-            raise KeyboardInterrupt
+            raise raised
         return step
 
     before = sys.gettrace()
@@ -120,10 +121,11 @@ def interrupted(at: int, call: Callable[[], object]) -> bool:
         sys.settrace(step)
         try:
             call()
-        except (KeyboardInterrupt, Interrupted):
+        except (type(raised), Interrupted, MalformedText):
             pass
         finally:
             sys.settrace(before)
+            raised.__traceback__ = None
     return steps >= at
 
 

@@ -155,13 +155,14 @@ class Rows(unittest.TestCase):
         calls: list[Callable[[Any], list[Any]]] = [
             lambda rows: [row for row in [rows.fetchone()] if row], lambda rows: [*rows.fetchmany(3)], lambda rows: list(islice(rows, 1)),
             lambda rows: list(zip(*next(rows.batches(3), [])))]
-        for call in calls:
+        late = KeyboardInterrupt(), ValueError("late"), gavyreto.Error("late")  # what handlers of signals raise
+        for call, raised in product(calls, late):
             at = 1
-            while self.interrupted_rows(at, call):
-                at += 2
+            while self.interrupted_rows(at, call, raised):
+                at += 2 if isinstance(raised, KeyboardInterrupt) else 3
             self.assertGreater(at, 200)
 
-    def interrupted_rows(self, at: int, call: Callable[[Any], list[Any]]) -> bool:
+    def interrupted_rows(self, at: int, call: Callable[[Any], list[Any]], raised: BaseException) -> bool:
         """Reads rows by a call, the first of which is interrupted. Returns whether it was."""
         came = text_of(b'"a"\r\n' + b"".join(b"%d\r\n" % n for n in range(9)) + b'\r\n"b"\r\n', 30)
         rows, found = cast(Any, None), list[int]()
@@ -172,10 +173,10 @@ class Rows(unittest.TestCase):
             while len(found) < 9 and (more := call(rows)):
                 found.extend(row[0] for row in more)
 
-        is_interrupted = interrupted(at, read)
-        with contextlib.suppress(gavyreto.Interrupted):
+        is_interrupted = interrupted(at, read, raised)
+        with contextlib.suppress(gavyreto.Interrupted, gavyreto.MalformedText):
             read()
-            self.assertEqual(found, list(range(9)), at)
+            self.assertEqual(found, list(range(9)), (at, raised))
         return is_interrupted
 
     def test_an_interrupt_within_a_value(self) -> None:
