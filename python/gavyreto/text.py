@@ -661,7 +661,7 @@ class Sets(Single):
     def _end_by(self, failure: BaseException) -> None:
         """What an exception means that came while rows were read: one from elsewhere, as of a signal's handler, makes the reading a failed one."""
         place = failure.__traceback__
-        while place and place.tb_next:
+        while place and place.tb_next and not self._failure:
             place = place.tb_next
         is_own = place and place.tb_frame.f_globals is globals() and isinstance(failure, (Error, StopIteration, GeneratorExit, ValueError))
         if not self._failure and not is_own and failure is not self._kept:
