@@ -74,6 +74,12 @@ pub record WroteChunks (c : Conversion) (bytes to : List ℕ) (at made sum : ℕ
   pub few : 5 * turns + 8 ≤ at
   pub size : (most : ℕ) → 8 + chunks_size (turns + most) (drop 8 bytes) ≡ at + chunks_size most (drop at bytes)
 
+-- the bytes of the next one
+pub next_bytes : (bytes : List ℕ) (at n : ℕ) → take (at + (4 + n)) bytes ≡ take at bytes ++ (take 4 (drop at bytes) ++ take n (drop (at + 4) bytes))
+next_bytes bytes at n =
+    N.take-add at (4 + n) bytes ∙ ap (λ l. take at bytes ++ l) (N.take-add 4 n (drop at bytes)
+    ∙ ap (λ l. take 4 (drop at bytes) ++ take n l) (N.drop-drop 4 at bytes))
+
 module _ (c : Conversion) (bytes : List ℕ) where
   -- before the first one
   pub wrote_none : (to : List ℕ) (made : ℕ) → take made to ≡ open_field c [] → WroteChunks c bytes to 8 made 0
@@ -90,12 +96,6 @@ module _ (c : Conversion) (bytes : List ℕ) where
     few = omega arith;
     size = λ most. ap (λ (k : ℕ). 8 + chunks_size k (drop 8 bytes)) (omega arith);
   }
-
-  -- the bytes of the next one
-  next_bytes : (at n : ℕ) → take (at + (4 + n)) bytes ≡ take at bytes ++ (take 4 (drop at bytes) ++ take n (drop (at + 4) bytes))
-  next_bytes at n =
-      N.take-add at (4 + n) bytes ∙ ap (λ l. take at bytes ++ l) (N.take-add 4 n (drop at bytes)
-      ∙ ap (λ l. take 4 (drop at bytes) ++ take n l) (N.drop-drop 4 at bytes))
 
   -- after one more, whose data has a text of its own
   pub wrote_more : {to : List ℕ} {at made sum : ℕ} (n added : ℕ) (part new after : List ℕ) → WroteChunks c bytes to at made sum → at + 4 + n ≤ length bytes
@@ -120,7 +120,7 @@ module _ (c : Conversion) (bytes : List ℕ) where
         alone = joins.keeps x.content part begun ∙ rw x.alone alone;
         text_is = tail ∙ rw (x.text_is, text) grows;
         front = x.front ++ (header ++ part);
-        read = next_bytes at n ∙ rw (x.read, ← part_is) (append_assoc (take 8 bytes) x.front (header ++ part));
+        read = next_bytes bytes at n ∙ rw (x.read, ← part_is) (append_assoc (take 8 bytes) x.front (header ++ part));
         goes_on = λ chunks rest spelt.
             let read = four.1 ∙ sym counted ∙ sym size in
             let one : N.SpellsChunk part (header ++ part) =

@@ -9,7 +9,7 @@ ghost use Rattle.tds_text.specs.Joining.{emit};
 ghost use Rattle.tds_text.specs.Plain.{LiesIn};
 ghost use Rattle.tds_values.specs.declared.kind.Reach.{Reach};
 
-use crate::whole::UNKNOWN_TOTAL;
+use crate::whole::{UNKNOWN_TOTAL, VALUE_ROOM};
 use byteorder::{ByteOrder, LittleEndian};
 use tds_text::framing::{BINARY_MARK, QUOTE};
 use tds_text::lanes::LANES;
@@ -44,10 +44,25 @@ fn chunk_at(bytes: &[u8], at: usize) -> Option<usize>
     Some(n)
 }
 
-// Whether the value whose total is at the front of these bytes isn't NULL, is whole by the lengths of its chunks, and has at most `most`
-// bytes of data: if not, no text is written in vain.
+// Whether data of this content, of which some is there, surely ends within a character.
 #[inline(always)]
-fn lies_whole(bytes: &[u8], most: usize) -> bool
+fn is_cut(content: Content, data: &[u8]) -> bool
+    requires { 0 < length data.now }
+{
+    let n = data.len();
+    match content {
+        Content::Utf16 => n % 2 == 1 || data[n - 1] & 0xFC == 0xD8,
+        Content::Utf8 => {
+            data[n - 1] >= 0xC0 || n > 1 && data[n - 2] >= 0xE0 || n > 2 && data[n - 3] >= 0xF0
+        }
+        Content::Binary | Content::Windows1252 => false,
+    }
+}
+
+// Whether the value of this content whose total is at the front of these bytes isn't NULL, is whole by the lengths of its chunks, has at
+// most `most` bytes of data, and no chunk that is seen to end within a character: if not, no text is written in vain.
+#[inline(always)]
+fn lies_whole(content: Content, bytes: &[u8], most: usize) -> bool
     requires { 3 * most < 2 ^ 64 }
     ensures { result ≡ true → (8 ≤ length bytes.now) × (little_number 8 bytes.now ≢ 2 ^ 64 - 1) }
 {
@@ -58,6 +73,7 @@ fn lies_whole(bytes: &[u8], most: usize) -> bool
     if total > most as u64 && total != UNKNOWN_TOTAL {
         return false;
     }
+    let cuts = matches!(content, Content::Utf16 | Content::Utf8);
     let mut at = TOTAL_SIZE;
     let mut size = 0;
     while size <= most {
@@ -67,7 +83,11 @@ fn lies_whole(bytes: &[u8], most: usize) -> bool
         if n == 0 {
             return true;
         }
-        at += CHUNK_LENGTH_SIZE + n;
+        let end = at + CHUNK_LENGTH_SIZE + n;
+        if cuts && is_cut(content, &bytes[at + CHUNK_LENGTH_SIZE..end]) {
+            return false;
+        }
+        at = end;
         size += n;
     }
     false
@@ -138,12 +158,12 @@ fn write_text(content: Content, part: &[u8], source: &[u8], to: &mut [u8]) -> Op
 /// its own: else no byte is used. Two bytes of room are left after it.
 #[inline(never)]
 pub(crate) fn write_chunks(content: Content, bytes: &[u8], to: &mut [u8]) -> Span
-    requires room { 65 ≤ length to.old }
+    requires room { VALUE_ROOM ≤ length to.old }
     ensures { 0 < result.used → LongWritten (conversion_of content) Reach.Chunked bytes.now (length to.old + 1)
         to.new (Some result) }
 {
     let nothing = Span { used: 0, made: 0 };
-    if !lies_whole(bytes, (to.len() - 2 * LANES) / 3) {
+    if !lies_whole(content, bytes, (to.len() - 2 * LANES) / 3) {
         return nothing;
     }
     let mut made = open(content, to);

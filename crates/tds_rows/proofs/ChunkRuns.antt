@@ -8,6 +8,7 @@ use Rattle.tds_rows.proofs.Paths.{At, over, path_both}
 use Rattle.tds_rows.proofs.LongValues.{Streamed}
 use Rattle.tds_rows.specs.ChunkRuns.{ChunksWritten, RunsChunks}
 use Rattle.tds_cells.proofs.GrammarTexts.{writes_both, writes_none}
+use Rattle.tds_cells.proofs.SeveralChunks.{next_bytes}
 
 module _ (c : Conversion) (column : ℕ) (last : Bool) (total : Option ℕ) where
   -- the length of a chunk and its data are elements
@@ -58,12 +59,6 @@ pub record HasChunk (bytes : List ℕ) (at : ℕ) (total : Option ℕ) (sum n : 
   pub whole : at + 4 + n ≤ length bytes
   pub number : N.little (take 4 (drop at bytes)) ≡ n
   pub fits : N.within_total total (sum + n) ≡ true
-
--- the bytes of the next chunk
-pub next_bytes : (bytes : List ℕ) (at n : ℕ) → take (at + (4 + n)) bytes ≡ take at bytes ++ (take 4 (drop at bytes) ++ take n (drop (at + 4) bytes))
-next_bytes bytes at n =
-    N.take-add at (4 + n) bytes ∙ ap (λ l. take at bytes ++ l) (N.take-add 4 n (drop at bytes)
-    ∙ ap (λ l. take 4 (drop at bytes) ++ take n l) (N.drop-drop 4 at bytes))
 
 -- the lengths of its parts
 pub chunk_lengths : {bytes : List ℕ} {at sum n : ℕ} {total : Option ℕ} → HasChunk bytes at total sum n
