@@ -65,7 +65,8 @@ class Rows(unittest.TestCase):
                 agains: list[Callable[[], Any]] = [
                     rows.fetchall, rows.fetchone, lambda: next(rows), lambda: list(rows), lambda: next(rows.batches(1)), lambda: next(came)]
                 kept = iter(rows)
-                for again in [*agains, lambda: next(kept), lambda: list(kept)]:
+                agains += [lambda: next(kept), lambda: list(kept)]
+                for again in agains:
                     with self.assertRaises(gavyreto.ServerError) as raised:
                         again()
                     self.assertEqual(raised.exception.rows, 5)
