@@ -46,14 +46,14 @@ fn chunk_at(bytes: &[u8], at: usize) -> Option<usize>
 
 // Whether data of this content, of which some is there, surely ends within a character.
 #[inline(always)]
-fn is_cut(content: Content, data: &[u8]) -> bool
-    requires { 0 < length data.now }
+fn is_cut(content: Content, part: &[u8]) -> bool
+    requires { 0 < length part.now }
 {
-    let n = data.len();
+    let n = part.len();
     match content {
-        Content::Utf16 => n % 2 == 1 || data[n - 1] & 0xFC == 0xD8,
+        Content::Utf16 => n % 2 == 1 || part[n - 1] & 0xFC == 0xD8,
         Content::Utf8 => {
-            data[n - 1] >= 0xC0 || n > 1 && data[n - 2] >= 0xE0 || n > 2 && data[n - 3] >= 0xF0
+            part[n - 1] >= 0xC0 || n > 1 && part[n - 2] >= 0xE0 || n > 2 && part[n - 3] >= 0xF0
         }
         Content::Binary | Content::Windows1252 => false,
     }

@@ -3,6 +3,7 @@ use Rattle.tds_csv.proofs as N
 use N.{Err, List, Ok, PutsPiece, Sink, Stop, [], drop, emit, take, ℕ, ◌++◌, ◌+◌, ◌-◌, ◌≡◌, ◌≤◌}
 use N.Puttings.{PutsPiece-trans}
 use Rattle.tds_text.proofs as T
+use Rattle.std.proofs.lemmas.List.{drop-drop}
 use Rattle.tds_text.specs.Utf16 as utf16
 
 -- ---- data whose bytes each stand alone, a run after the other
@@ -43,6 +44,18 @@ module _ {rest text : List ℕ → List ℕ} where
       → N.Leads rest text xs ys p → PutsPiece contents a b p (Ok u) → PutsPiece contents b d (emit rest text ys) r
       → PutsPiece contents a d (emit rest text xs) r
   puts_whole l x y = rw l.emits (PutsPiece-trans _ _ _ _ _ _ _ _ x y)
+
+  -- so were the first of the bytes that follow, so many
+  pub puts_on : {W : Type 0} {contents : W → N.Option (List ℕ)} {a b d : Sink W} {xs : List ℕ} (bytes : List ℕ) (at n : ℕ)
+      → (p : List ℕ) × PutsPiece contents a b p (Ok (tt {0})) × N.Leads rest text xs (drop at bytes) p
+      → (q : List ℕ) × PutsPiece contents b d q (Ok (tt {0}))
+      × N.Leads rest text (take (N.length bytes - at) (drop at bytes)) (drop n (take (N.length bytes - at) (drop at bytes))) q
+      → (r : List ℕ) × PutsPiece contents a d r (Ok (tt {0})) × N.Leads rest text xs (drop (at + n) bytes) r
+  puts_on bytes at n x y = (
+    x.0 ++ y.0,
+    PutsPiece-trans _ _ _ _ tt _ _ (Ok tt) x.1 y.1,
+    T.JoiningLemmas.Leads-trans x.2 (rw (T.UsualText.rest_of, drop-drop) at y.2),
+  )
 
   -- a write failed in the part before
   pub puts_part : {W U : Type 0} {contents : W → N.Option (List ℕ)} {a b : Sink W} {xs ys p : List ℕ} {e : Stop} → N.Leads rest text xs ys p

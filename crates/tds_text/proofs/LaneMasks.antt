@@ -4,7 +4,7 @@ use N.{Bool, Each1, Fits, List, [], ap, arith, chunk, drop, false, length, map, 
 use N.{◌++◌, ◌<◌, ◌^◌, ◌∙◌, ◌∷◌, ◌≡◌, ◌≤◌, ◌||◌}
 use Rattle.std.proofs.Math.Nat.{add-mul-mod_self_left, mod-eq_of_lt, mul_assoc, pow-succ'}
 use Rattle.std.proofs.lemmas.List.Sums.{count_by-le-length}
-use Rattle.std.proofs.lemmas.Nat.{pow_pos, and_mask, le_or_l, le_or_r}
+use Rattle.std.proofs.lemmas.Nat.{pow_pos, and_mask, le_or_l, le_or_r, or_lt}
 use Rattle.std.proofs.lemmas.List.{drop-map}
 use Rattle.std.proofs.lemmas.Simd.{Each1-replicate}
 use Rattle.std.proofs.Math.Seq.{drop-append_seam}
@@ -41,11 +41,15 @@ pub run_most : (q : ℕ → Bool) (d : List ℕ) (i n : ℕ) → i + n ≤ lengt
 run_most = grind (arith, N.prefix_len-le-length, N.length-chunk)
 
 -- bytes that lie in others are the same as those
-pub alike : (bytes source : List ℕ) (at n : ℕ) → N.LiesIn bytes source → n ≤ 16 → at + n ≤ length bytes → take n (drop at bytes) ≡ take n (chunk at 16 source)
-alike bytes source at n lies few within =
+pub front_alike : (bytes source : List ℕ) (at n w : ℕ) → N.LiesIn bytes source → n ≤ w → at + n ≤ length bytes
+    → take n (drop at bytes) ≡ take n (chunk at w source)
+front_alike bytes source at n w lies few within =
     let k = length bytes - at in
     let all : at + k ≡ length bytes = omega arith in
-    rw (← lies.front, ← all, N.drop-take at k source, N.take-take n k (drop at source) (omega arith), N.take-take n 16 (drop at source) few) refl
+    rw (← lies.front, ← all, N.drop-take at k source, N.take-take n k (drop at source) (omega arith), N.take-take n w (drop at source) few) refl
+
+pub alike : (bytes source : List ℕ) (at n : ℕ) → N.LiesIn bytes source → n ≤ 16 → at + n ≤ length bytes → take n (drop at bytes) ≡ take n (chunk at 16 source)
+alike bytes source at n lies few within = front_alike bytes source at n 16 lies few within
 
 -- two functions that are the same on units
 pub same_map : {A : Type 0} {f g : ℕ → A} → ((u : ℕ) → u < 65536 → f u ≡ g u) → (us : List ℕ) → Each1 (Fits N.w16) us → map f us ≡ map g us
@@ -53,9 +57,9 @@ same_map same [] fits = refl
 same_map same (u ∷ us) fits = N.ap₂ (λ x xs. x ∷ xs) (same u fits.0.fits) (same_map same us fits.1)
 
 -- the mask of lanes whose top bit is set just where a test holds
-pub mask_of : (q : ℕ → Bool) (f : ℕ → ℕ) (us : List ℕ) {z : List ℕ} → length us ≡ 8 → Each1 (Fits N.w16) us → z ≡ map f us
+pub mask_of : (q : ℕ → Bool) (f : ℕ → ℕ) (us : List ℕ) {w : ℕ} {z : List ℕ} → length us ≡ w → w ≤ 64 → Each1 (Fits N.w16) us → z ≡ map f us
     → ((u : ℕ) → u < 65536 → top 15 (f u) ≡ q u) → mask_l (map (top 15) z) % 2 ^ 64 ≡ mask_l (map q us)
-mask_of q f us long fits lanes same =
+mask_of q f us long few fits lanes same =
     let stops = λ (u : ℕ). top 15 (f u) in
     rw (lanes, N.map-map (top 15) f us) (N.mask_l-mod (map stops us) 64 (grind (arith, N.length-map)) ∙ ap mask_l (same_map same us fits))
 
@@ -243,9 +247,88 @@ plain_units : (us : List ℕ) → Each1 (Fits N.w16) us → Each1 (λ x. x ≡ 0
 plain_units [] fits none other = tt
 plain_units (u ∷ us) fits none other = (plain_unit u fits.0.fits none.0 other.0, plain_units us fits.1 none.1 other.1)
 
-pub all_plain : (us : List ℕ) {z : List ℕ} → length us ≡ 8 → Each1 (Fits N.w16) us
-    → N.fold_l N.bit_or 0 (N.zip2 N.bit_and us (N.replicate 8 65408)) ≡ 0 → z ≡ map (λ u. N.cond (N.eqb u 34) 65535 0) us
+pub all_plain : (us : List ℕ) {w : ℕ} {z : List ℕ} → length us ≡ w → w ≤ 64 → Each1 (Fits N.w16) us
+    → N.fold_l N.bit_or 0 (N.zip2 N.bit_and us (N.replicate w 65408)) ≡ 0 → z ≡ map (λ u. N.cond (N.eqb u 34) 65535 0) us
     → N.nat_eq (mask_l (map (top 15) z) % 2 ^ 64) 0 ≡ true → Each1 (λ u. N.is_wide u ≡ false) us
-all_plain us {z} long fits none lanes tested =
-    let masked = mask_of (λ u. N.eqb u 34) (λ u. N.cond (N.eqb u 34) 65535 0) us long fits lanes (grind arith) in
-    plain_units us fits (none_joined 0 _ (rw (N.zip2_splat N.bit_and us 8 65408 long) at none)).1 (none_passes _ us (grind arith))
+all_plain us {w} {z} long few fits none lanes tested =
+    let masked = mask_of (λ u. N.eqb u 34) (λ u. N.cond (N.eqb u 34) 65535 0) us long few fits lanes (grind arith) in
+    plain_units us fits (none_joined 0 _ (rw (N.zip2_splat N.bit_and us w 65408 long) at none)).1 (none_passes _ us (grind arith))
+
+-- ---- eight units and eight others
+
+-- a lane that is a quote has all its bits, and any other none
+abbrev quote_lane : ℕ → ℕ
+quote_lane u = N.cond (N.eqb u 34) 65535 0
+
+-- two that have none of the high bits together, and of which none is a quote
+plain_pair : (a b : ℕ) → a < 65536 → b < 65536 → N.bit_and (N.bit_or a b) 65408 ≡ 0 → top 15 (N.bit_or (quote_lane a) (quote_lane b)) ≡ false
+    → (N.is_wide a ≡ false) × (N.is_wide b ≡ false)
+plain_pair a b small little none other =
+    let low : N.bit_or a b < 128 =
+    grind (arith, and_high_mask 16 7 (omega arith) (N.bit_or a b) (or_lt 16 a b small little), none) in
+    let quotes : (N.eqb a 34 ≡ false) × (N.eqb b 34 ≡ false) = grind arith in
+    grind (arith, le_or_l, le_or_r, low, quotes)
+
+plain_pairs : (xs ys : List ℕ) → length xs ≡ length ys → Each1 (Fits N.w16) xs → Each1 (Fits N.w16) ys
+    → Each1 (λ x. x ≡ 0) (map (λ u. N.bit_and u 65408) (zip2 N.bit_or xs ys))
+    → Each1 (λ m. top 15 m ≡ false) (zip2 N.bit_or (map quote_lane xs) (map quote_lane ys))
+    → Each1 (λ u. N.is_wide u ≡ false) xs × Each1 (λ u. N.is_wide u ≡ false) ys
+plain_pairs [] [] same fits more none other = (tt, tt)
+plain_pairs (x ∷ xs) (y ∷ ys) same fits more none other =
+    let here = plain_pair x y fits.0.fits more.0.fits none.0 other.0 in
+    let later = plain_pairs xs ys (omega arith) fits.1 more.1 none.1 other.1 in
+    ((here.0, later.0), (here.1, later.1))
+plain_pairs [] (y ∷ ys) same fits more none other = grind arith
+plain_pairs (x ∷ xs) [] same fits more none other = grind arith
+
+-- the lanes of two comparisons with a quote
+pub quote_lanes : (xs ys : List ℕ) → length xs ≡ 8 → length ys ≡ 8
+    → zip2 N.bit_or (zip2 (λ a b. N.cond (N.eqb a b) 65535 0) xs (N.replicate 8 34)) (zip2 (λ a b. N.cond (N.eqb a b) 65535 0) ys (N.replicate 8 34))
+    ≡ zip2 N.bit_or (map quote_lane xs) (map quote_lane ys)
+quote_lanes xs ys long long' = N.ap₂ (zip2 N.bit_or) (N.zip2_splat (λ a b. N.cond (N.eqb a b) 65535 0) xs 8 34 long)
+    (N.zip2_splat (λ a b. N.cond (N.eqb a b) 65535 0) ys 8 34 long')
+
+pub both_plain : (xs ys : List ℕ) {z : List ℕ} → length xs ≡ 8 → length ys ≡ 8 → Each1 (Fits N.w16) xs → Each1 (Fits N.w16) ys
+    → N.fold_l N.bit_or 0 (zip2 N.bit_and (zip2 N.bit_or xs ys) (N.replicate 8 65408)) ≡ 0
+    → z ≡ zip2 N.bit_or (map quote_lane xs) (map quote_lane ys) → N.nat_eq (mask_l (map (top 15) z) % 2 ^ 64) 0 ≡ true
+    → Each1 (λ u. N.is_wide u ≡ false) xs × Each1 (λ u. N.is_wide u ≡ false) ys
+both_plain xs ys {z} long long' fits more none lanes tested =
+    let counted : length (zip2 N.bit_or xs ys) ≡ 8 = grind (arith, N.length-zip2) in
+    let few : length (map (top 15) z) ≤ 64 = grind (arith, N.length-map, N.length-zip2) in
+    let quotes = none_passes (top 15) z (grind (arith, N.mask_l-mod (map (top 15) z) 64 few)) in
+    plain_pairs xs ys (omega (arith, long, long')) fits more (none_joined 0 _ (rw (N.zip2_splat N.bit_and (zip2 N.bit_or xs ys) 8 65408 counted) at none)).1
+    (rw lanes at quotes)
+
+-- two of ASCII that aren't quotes have none of these bits
+no_pair : (a b : ℕ) → N.is_wide a ≡ false → N.is_wide b ≡ false
+    → (N.bit_and (N.bit_or a b) 65408 ≡ 0) × (top 15 (N.bit_or (quote_lane a) (quote_lane b)) ≡ false)
+no_pair a b first second =
+    let small : (a < 128) × (b < 128) = grind arith in
+    let low = or_lt 7 a b small.0 small.1 in
+    (grind (arith, and_high_mask 16 7 (omega arith) (N.bit_or a b) (omega (arith, low)), low), grind arith)
+
+no_pairs : (xs ys : List ℕ) → length xs ≡ length ys → Each1 (λ u. N.is_wide u ≡ false) xs → Each1 (λ u. N.is_wide u ≡ false) ys
+    → Each1 (λ x. x ≡ 0) (map (λ u. N.bit_and u 65408) (zip2 N.bit_or xs ys))
+    × Each1 (λ m. top 15 m ≡ false) (zip2 N.bit_or (map quote_lane xs) (map quote_lane ys))
+no_pairs [] [] same first second = (tt, tt)
+no_pairs (x ∷ xs) (y ∷ ys) same first second =
+    let here = no_pair x y first.0 second.0 in
+    let later = no_pairs xs ys (omega arith) first.1 second.1 in
+    ((here.0, later.0), (here.1, later.1))
+no_pairs [] (y ∷ ys) same first second = grind arith
+no_pairs (x ∷ xs) [] same first second = grind arith
+
+none_folded : (xs : List ℕ) → Each1 (λ x. x ≡ 0) xs → N.fold_l N.bit_or 0 xs ≡ 0
+none_folded [] each = refl
+none_folded (x ∷ xs) each = rw each.0 (none_folded xs each.1)
+
+module _ (xs ys : List ℕ) (long : length xs ≡ 8) (long' : length ys ≡ 8) (first : Each1 (λ u. N.is_wide u ≡ false) xs)
+    (second : Each1 (λ u. N.is_wide u ≡ false) ys) where
+  pub no_high : N.fold_l N.bit_or 0 (zip2 N.bit_and (zip2 N.bit_or xs ys) (N.replicate 8 65408)) ≡ 0
+  no_high =
+      let counted : length (zip2 N.bit_or xs ys) ≡ 8 = grind (arith, N.length-zip2) in
+      rw (N.zip2_splat N.bit_and (zip2 N.bit_or xs ys) 8 65408 counted)
+      (none_folded _ (no_pairs xs ys (omega (arith, long, long')) first second).0)
+
+  pub no_quotes : {z : List ℕ} → z ≡ zip2 N.bit_or (map quote_lane xs) (map quote_lane ys) → mask_l (map (top 15) z) % 2 ^ 64 ≡ 0
+  no_quotes is = rw (is, none_set (top 15) _ (no_pairs xs ys (omega (arith, long, long')) first second).1) refl

@@ -106,6 +106,15 @@ pub plain_utf8 : (bytes : List ℕ) → ArePlain bytes → N.IsUtf8 bytes
 plain_utf8 [] plain = N.IsUtf8-nil
 plain_utf8 (b ∷ bytes) plain = N.IsUtf8-append (b ∷ []) bytes (grind (arith, one_utf8)) (plain_utf8 bytes plain.1)
 
+-- all of the next 32, if no stop was found among them
+pub plain_wide : (bytes : List ℕ) (at : ℕ) → N.first_set 0 32 ≡ N.prefix_len is_plain (chunk at 32 bytes) → ArePlain (chunk at 32 bytes)
+plain_wide bytes at all = rw (N.take-take 32 32 (drop at bytes) (omega arith)) at (plain_front 32 (chunk at 32 bytes) (omega (arith, all)))
+
+-- bytes and others that are
+pub plain_both : (xs ys : List ℕ) → ArePlain xs → ArePlain ys → ArePlain (xs ++ ys)
+plain_both [] ys first second = second
+plain_both (b ∷ xs) ys first second = (first.0, plain_both xs ys first.1 second)
+
 -- ---- bytes without a quote
 
 -- those that were found among the next `w`

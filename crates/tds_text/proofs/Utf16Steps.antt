@@ -139,6 +139,16 @@ ends_held {bytes} {to} {used} {made} before held =
 pub ends_there : {bytes to : List ℕ} {used made : ℕ} → N.Converts bytes to used made → used ≡ length bytes → Ended bytes to used made
 ends_there = grind (arith, nil_of_length, N.length-drop, ends_held)
 
+-- and the data is whole
+pub whole_there : {bytes to : List ℕ} {used made : ℕ} → N.Converts bytes to used made → used ≡ length bytes → length bytes % 2 ≡ 0
+    → take made to ≡ text bytes
+whole_there {bytes} {to} {used} before all whole =
+    let x = ends_there before all in
+    let none : drop used bytes ≡ [] = grind (arith, nil_of_length, N.length-drop) in
+    let left : text (rest bytes) ≡ [] = grind (arith, text_nil) in
+    let emitted = emit rest text bytes in
+    x.emits ∙ N.sym (joins_utf16.ends bytes whole ∙ ap (λ l. emitted ++ l) left ∙ N.append-nil emitted)
+
 -- no whole unit does
 few_held : (xs : List ℕ) → length xs ≤ 1 → rest xs ≡ xs
 few_held = grind arith

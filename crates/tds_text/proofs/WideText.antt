@@ -2,7 +2,7 @@
 use Rattle.tds_text.proofs as N
 use N.{is_half, is_long, is_wide, quad_bytes, triples, unit_text, units_text, ◌-◌, refl, chunk, Bool, Each1, Fits, List, [], ap, arith, drop, mask_l, false}
 use N.{get_or, length, map, suc, sym, take, true, w16, zero, ℕ, ◌%◌, ◌*◌, ◌++◌, ◌+◌, ◌/◌, ◌<◌, ◌∙◌, ◌∷◌, ◌≡◌, ◌≤◌, ◌^◌}
-use N.LaneMasks.{alike, first_lanes, first_mask, last_lanes, none_set}
+use N.LaneMasks.{first_lanes, first_mask, front_alike, last_lanes, none_set}
 use N.Characters.{of_one, of_two, of_three, doubled_character}
 use N.Lookup.{bits, placed, same_texts, IsRow, pair_places, quad_places}
 use N.JoiningLemmas.{Leads-none, Leads-trans}
@@ -178,13 +178,13 @@ length-units [] = grind arith
 length-units (low ∷ []) = grind arith
 length-units (low ∷ high ∷ xs) = let more = length-units xs in grind arith
 
--- the first of eight are characters of ASCII, and were written
-pub plain_added : (ys old new kept : List ℕ) {us low : List ℕ} {at : ℕ} (n : ℕ) → length ys ≡ 16 → n ≤ 8 → at ≤ length old → us ≡ units ys
-    → take n kept ≡ take n us → Each1 (λ u. is_wide u ≡ false) kept → low ≡ N.evens ys → take (at + 8) new ≡ take at old ++ take 8 low
+-- the first of so many are characters of ASCII, and were written
+pub plain_added : (ys old new kept : List ℕ) {us low : List ℕ} {at : ℕ} (n w : ℕ) → n ≤ w → at ≤ length old → us ≡ units ys
+    → take n kept ≡ take n us → Each1 (λ u. is_wide u ≡ false) kept → low ≡ N.evens ys → take (at + w) new ≡ take at old ++ take w low
     → (take (at + n) new ≡ take at old ++ units_text (take n (units ys))) × Each1 (λ u. is_half u ≡ false) (take n (units ys))
-plain_added ys old new kept {low} {at} n long few within is same none low_is written =
+plain_added ys old new kept {low} {at} n w few within is same none low_is written =
     let plain = rw (same, is) at (each_taken _ n kept none) in (
-      (rw (N.take-take n 8 low few, low_is) at (N.Characters.front_written old new (take 8 low) at n 8 few within written)) ∙ ap (λ l. take at old ++ l)
+      (rw (N.take-take n w low few, low_is) at (N.Characters.front_written old new (take w low) at n w few within written)) ∙ ap (λ l. take at old ++ l)
           (plain_texts n ys plain),
       N.Each1-weaker _ _ (grind arith) _ plain,
     )
@@ -202,23 +202,28 @@ leads_front (suc k) (low ∷ high ∷ ys) more few each =
 leads_front k ys more few each = grind arith
 
 -- all the bytes are a source of their own
-lies_itself : (bytes : List ℕ) → N.LiesIn bytes bytes
+pub lies_itself : (bytes : List ℕ) → N.LiesIn bytes bytes
 lies_itself = grind (arith, N.common_steps)
 
+-- before the first unit nothing was
+pub none_converted : (bytes to : List ℕ) → N.Converts bytes to 0 0
+none_converted bytes to = record { within = omega arith; room = omega arith; leads = Leads-none }
+
 -- so many units of a source that begins with the bytes were converted after what was before
-pub units_more : {bytes source old new : List ℕ} {at made after : ℕ} (n : ℕ) → N.LiesIn bytes source → at + 16 ≤ length source → n ≤ 8
-    → Each1 (λ u. is_half u ≡ false) (take n (units (chunk at 16 source))) → at + 2 * n ≤ length bytes → after ≤ made + 3 * n
-    → take after new ≡ take made old ++ units_text (take n (units (chunk at 16 source))) → N.Converts bytes old at made
+pub units_more : {bytes source old new : List ℕ} {at made after : ℕ} (n w : ℕ) → N.LiesIn bytes source → at + 2 * w ≤ length source → n ≤ w
+    → Each1 (λ u. is_half u ≡ false) (take n (units (chunk at (2 * w) source))) → at + 2 * n ≤ length bytes → after ≤ made + 3 * n
+    → take after new ≡ take made old ++ units_text (take n (units (chunk at (2 * w) source))) → N.Converts bytes old at made
     → N.Converts bytes new (at + 2 * n) after
-units_more {bytes} {source} {at} n lies room few single within small written before =
-    let ys = chunk at 16 source in
-    let eight : length (units ys) ≡ 8 = omega (arith, length-units ys, N.length-chunk at 16 source room) in
-    let next = rw (← (alike bytes source at (2 * n) lies (omega arith) within), N.take-append-drop, N.drop-drop (2 * n) at bytes) at
+units_more {bytes} {source} {at} n w lies room few single within small written before =
+    let ys = chunk at (2 * w) source in
+    let counted : length (units ys) ≡ w = omega (arith, length-units ys, N.length-chunk at (2 * w) source room) in
+    let next = rw (← (front_alike bytes source at (2 * n) (2 * w) lies (omega arith) within), N.take-append-drop, N.drop-drop (2 * n) at bytes) at
     (leads_front n ys (drop (2 * n) (drop at bytes)) (omega arith) single) in
     record { within = within; room = omega arith; leads = rw written (Leads-trans before.leads next) }
 
--- so were eight units of the bytes
-pub eight_more : {bytes old new : List ℕ} {at made after : ℕ} → at + 16 ≤ length bytes
-    → Each1 (λ u. is_half u ≡ false) (take 8 (units (chunk at 16 bytes))) → after ≤ made + 24
-    → take after new ≡ take made old ++ units_text (take 8 (units (chunk at 16 bytes))) → N.Converts bytes old at made → N.Converts bytes new (at + 16) after
-eight_more {bytes} room single small written before = units_more 8 (lies_itself bytes) room (omega arith) single room small written before
+-- so were all of so many units of the bytes
+pub all_more : {bytes old new : List ℕ} {at made after : ℕ} (w : ℕ) → at + 2 * w ≤ length bytes
+    → Each1 (λ u. is_half u ≡ false) (take w (units (chunk at (2 * w) bytes))) → after ≤ made + 3 * w
+    → take after new ≡ take made old ++ units_text (take w (units (chunk at (2 * w) bytes))) → N.Converts bytes old at made
+    → N.Converts bytes new (at + 2 * w) after
+all_more {bytes} w room single small written before = units_more w w (lies_itself bytes) room (omega arith) single room small written before

@@ -187,16 +187,12 @@ pub(crate) fn put_units(to: &mut [u8], at: usize, lanes: u8x16, n: usize) -> Opt
     Some(put_pairs(to, at, units, wide_units(units), n))
 }
 
-// Writes the text of eight units, and returns whether it did: if all of them are characters of ASCII and none is a quote.
+// Writes the text of eight units, which are characters of ASCII and no quotes.
 #[inline(always)]
-pub(crate) fn put_plain(to: &mut [u8], at: usize, lanes: u8x16) -> bool
-    requires { at + UNITS ≤ length to.old }
-    ensures same { result ≡ false → to.new ≡ to.old }
-    ensures written { result ≡ true → AddsUnits to.old to.new at (at + UNITS) UNITS (utf16.units lanes) }
+pub(crate) fn put_plain(to: &mut [u8], at: usize, lanes: u8x16)
+    requires plain { Each1 (λ u. is_wide u ≡ false) (utf16.units lanes) }
+    requires room { at + UNITS ≤ length to.old }
+    ensures { AddsUnits to.old to.new at (at + UNITS) UNITS (utf16.units lanes) }
 {
-    if !are_plain(units_of(lanes)) {
-        return false;
-    }
     put_lanes(to, at, low_bytes(lanes), UNITS);
-    true
 }

@@ -1,5 +1,5 @@
 // The field of a whole value of a long kind, written to a slice.
-ghost use Rattle.std.specs.Prelude.{◌≡◌, ◌+◌, ◌*◌, ◌%◌, ◌<◌, ◌≤◌, ◌++◌, ◌∷◌, [], length, take, IfSome};
+ghost use Rattle.std.specs.Prelude.{◌≡◌, ◌⊎◌, ◌+◌, ◌*◌, ◌%◌, ◌<◌, ◌≤◌, ◌++◌, ◌∷◌, [], length, take, IfSome, None};
 ghost use Rattle.tds_text.specs.Conversion.{HexDigits, Utf16Text, Utf8Text, Windows1252Text, long_field};
 ghost use Rattle.tds_text.specs.Fields.{FieldWritten, conversion_of, field_room};
 ghost use Rattle.tds_text.specs.Plain.{LiesIn};
@@ -8,6 +8,7 @@ ghost use Rattle.tds_text.specs.Quoting.{quote};
 use crate::framing::{BINARY_MARK, QUOTE};
 use crate::lanes::{LANES, MANY};
 use crate::lanes_hex::{encode, put_digits};
+use crate::tight::write_tight;
 use crate::{utf8, utf16, windows_1252};
 use std::simd::prelude::*;
 
@@ -43,7 +44,7 @@ pub fn field_room(content: Content, n: usize) -> usize
 
 // Writes the quote after the text of a field, and returns how many bytes the field has.
 #[inline(always)]
-fn close_quoted(to: &mut [u8], made: usize) -> usize
+pub(crate) fn close_quoted(to: &mut [u8], made: usize) -> usize
     requires { made < length to.old }
     ensures end { result ≡ made + 1 }
     ensures text { take result to.new ≡ take made to.old ++ quote ∷ [] }
@@ -149,14 +150,19 @@ fn write_utf8(source: &[u8], n: usize, to: &mut [u8]) -> Option<usize>
 
 /// Writes the field of a whole value, the first `n` of these bytes, to the front of a slice: `0x` and
 /// digits, or the text in quotes. Returns how many bytes it has, or `None` if the data isn't whole: an odd
-/// number of bytes in UTF-16, or bytes that are no UTF-8.
+/// number of bytes in UTF-16, or bytes that are no UTF-8; or if it may want more room, unless it is text of ASCII
+/// that fits.
 #[inline(always)]
 pub fn write_field(content: Content, source: &[u8], n: usize, to: &mut [u8]) -> Option<usize>
     requires within { n ≤ length source.now }
-    requires room { field_room (conversion_of content) n ≤ length to.old }
+    requires few { n ≤ 65535 }
     ensures most { IfSome result (λ made. made + 2 ≤ length to.old) }
-    ensures gives { FieldWritten (conversion_of content) (take n source.now) to.new result }
+    ensures gives { FieldWritten (conversion_of content) (take n source.now) to.new result
+        ⊎ ((result ≡ None) × (length to.old < field_room (conversion_of content) n)) }
 {
+    if to.len() < field_room(content, n) {
+        return write_tight(content, source, n, to);
+    }
     match content {
         Content::Binary => Some(write_binary(source, n, to)),
         Content::Windows1252 => Some(write_windows_1252(source, n, to)),

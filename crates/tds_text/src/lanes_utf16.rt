@@ -11,6 +11,9 @@ use std::simd::prelude::*;
 /// How many units are looked at together.
 pub(crate) const UNITS: usize = 8;
 
+/// How many are, as long as all of them are characters of ASCII.
+pub(crate) const MANY_UNITS: usize = 16;
+
 // Eight units, low byte first.
 #[inline(always)]
 pub(crate) fn units_of(bytes: u8x16) -> u16x8
@@ -71,6 +74,19 @@ pub(crate) fn are_plain(units: u16x8) -> bool
         return false;
     }
     units.simd_eq(u16x8::splat(0x22)).to_bitmask() == 0
+}
+
+// Whether each of eight units and eight others is a character of ASCII, and none is a quote.
+#[inline(always)]
+pub(crate) fn are_both_plain(first: u16x8, second: u16x8) -> bool
+    ensures plain { result ≡ true → Each1 (λ u. is_wide u ≡ false) first × Each1 (λ u. is_wide u ≡ false) second }
+    ensures other { result ≡ false → Each1 (λ u. is_wide u ≡ false) first → Each1 (λ u. is_wide u ≡ false) second → ⊥ }
+{
+    if ((first | second) & u16x8::splat(0xFF80)).reduce_or() != 0 {
+        return false;
+    }
+    let quotes = first.simd_eq(u16x8::splat(0x22)) | second.simd_eq(u16x8::splat(0x22));
+    quotes.to_bitmask() == 0
 }
 
 // Which of eight units have a text of fewer than three bytes, or are surrogates, the first by the lowest bit.

@@ -9,7 +9,7 @@
 //!
 //! # The way in
 //!
-//! `fields.rt` and `framing.rt` have the fields and what is around them. `usual.rt` has the loop for short text in
+//! `fields.rt` and `framing.rt` have the fields and what is around them, `tight.rt` those at the end of the room. `usual.rt` has the loop for short text in
 //! UTF-8, `beyond_ascii.rt` the text of units beyond ASCII, `encode.rt` that of one character, and the other files what
 //! is done with vectors of bytes. `specs/Conversion` says what the text of data is, and `specs/Quoting` what a field is.
 #![tactic(auto)]
@@ -25,6 +25,7 @@ mod lanes_hex;
 mod lanes_utf16;
 mod laws;
 mod places;
+mod tight;
 mod usual;
 pub mod utf16;
 pub mod utf8;

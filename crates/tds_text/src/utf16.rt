@@ -1,16 +1,18 @@
 // Characters of text in UTF-16.
-ghost use Rattle.std.specs.Prelude.{◌≡◌, ◌||◌, ◌+◌, ◌-◌, ◌*◌, ◌<◌, ◌≤◌, ◌%◌, ◌++◌, length, take, drop, slice_index, MatchOption, IfSome};
+ghost use Rattle.std.specs.Prelude.{◌≡◌, ◌||◌, ◌+◌, ◌-◌, ◌*◌, ◌<◌, ◌≤◌, ◌%◌, ◌++◌, false, length, take, drop, slice_index, MatchOption, IfSome};
+ghost use Rattle.std.specs.Simd.Lanes.{Each1, chunk};
 ghost use Rattle.std.specs.Char.{encode_utf8};
 ghost use Rattle.std.specs.Char.Utf16.{is_high_surrogate, is_low_surrogate};
 ghost use Rattle.tds_text.specs.Joining.{emit};
 ghost use Rattle.tds_text.specs.Plain.{LiesIn};
 ghost use Rattle.tds_text.specs.Utf16 as utf16;
+ghost use Rattle.tds_text.specs.Wide.{is_wide};
 ghost use Rattle.tds_text.specs.Utf16Next.{Converts, ConvertsIn, IsCharacter, IsNext, LeavesRest};
 
 use crate::beyond_ascii::{put_plain, put_units};
 use crate::encode::put_quoted;
-use crate::lanes::{LANES, first_set};
-use crate::lanes_utf16::{UNITS, surrogate_units, units_of};
+use crate::lanes::{LANES, WIDE, first_set};
+use crate::lanes_utf16::{MANY_UNITS, UNITS, are_both_plain, surrogate_units, units_of};
 use std::simd::prelude::*;
 use tds_values::Span;
 
@@ -126,24 +128,30 @@ pub(crate) fn convert_one(bytes: &[u8], from: usize, to: &mut [u8], start: usize
     }
 }
 
-// Goes on with the text by eight units, of which the last begin at `last` at the latest, as long as all of them are characters of
-// ASCII and none is a quote.
+/// Goes on with the text by sixteen units, as long as all of them are characters of ASCII, none is a quote, and they come before `end`.
 #[inline(always)]
-fn convert_plain(bytes: &[u8], last: usize, from: usize, to: &mut [u8], start: usize) -> Span
-    requires last { last + LANES ≤ length bytes.now }
-    requires long { 3 * length bytes.now + 2 * LANES ≤ 2 * length to.old }
+pub fn convert_plain(bytes: &[u8], from: usize, end: usize, to: &mut [u8], start: usize) -> Span
     requires before { Converts bytes.now to.old from start }
-    ensures more { from ≤ result.used }
+    requires within { (from ≤ end) × (end ≤ length bytes.now) }
+    requires room { end - from + 2 * start ≤ 2 * length to.old }
+    ensures within { (from ≤ result.used) × (result.used ≤ end) }
+    ensures single { result.used + 2 * start ≡ from + 2 * result.made }
     ensures after { Converts bytes.now to.new result.used result.made }
+    ensures ends { result.used + 32 ≤ end → Each1 (λ u. is_wide u ≡ false) (utf16.units (chunk result.used 16 bytes.now)) →
+        Each1 (λ u. is_wide u ≡ false) (utf16.units (chunk (result.used + 16) 16 bytes.now)) → ⊥ }
 {
     let mut at = from;
     let mut made = start;
-    while at <= last {
-        if !put_plain(to, made, u8x16::from_slice(&bytes[at..])) {
+    while end - at >= WIDE {
+        let first = u8x16::from_slice(&bytes[at..]);
+        let second = u8x16::from_slice(&bytes[at + LANES..]);
+        if !are_both_plain(units_of(first), units_of(second)) {
             break;
         }
-        at += LANES;
-        made += UNITS;
+        put_plain(to, made, first);
+        put_plain(to, made + UNITS, second);
+        at += WIDE;
+        made += MANY_UNITS;
     }
     Span { used: at, made }
 }
@@ -207,8 +215,8 @@ fn convert_some(
     }
 }
 
-// Goes on with the text up to the next surrogate: by the units that are left over when eight are taken at a time, then by eight,
-// those that are plain first.
+// Goes on with the text up to the next surrogate: by the units that are left over when eight are taken at a time, then by sixteen
+// as long as all are characters of ASCII, and then by eight.
 #[inline(always)]
 fn convert_run(bytes: &[u8], source: &[u8], from: usize, to: &mut [u8], start: usize) -> Span
     requires { ConvertsIn bytes.now source.now to.old from start }
@@ -217,15 +225,11 @@ fn convert_run(bytes: &[u8], source: &[u8], from: usize, to: &mut [u8], start: u
 {
     let few = (bytes.len() - from) / 2 % UNITS;
     let run = convert_some(bytes, source, from, to, start, few);
-    if bytes.len() - run.used < LANES {
-        return run;
-    }
-    let last = bytes.len() - LANES;
-    let plain = convert_plain(bytes, last, run.used, to, run.made);
-    if plain.used > last {
+    let plain = convert_plain(bytes, run.used, bytes.len(), to, run.made);
+    if bytes.len() - plain.used < LANES {
         return plain;
     }
-    convert_full(bytes, last, plain.used, to, plain.made)
+    convert_full(bytes, bytes.len() - LANES, plain.used, to, plain.made)
 }
 
 // How many of the next eight units come before the first surrogate among them.

@@ -1,5 +1,5 @@
 // Text in UTF-16 that comes in pieces.
-ghost use Rattle.std.specs.Prelude.{◌≡◌, ◌+◌, ◌-◌, ◌*◌, ◌%◌, ◌<◌, ◌≤◌, ◌++◌, true, length, drop, IfOk, ⊤};
+ghost use Rattle.std.specs.Prelude.{◌≡◌, ℕ, List, ◌+◌, ◌-◌, ◌*◌, ◌%◌, ◌<◌, ◌≤◌, ◌++◌, true, length, drop, IfOk, Ok, ⊤};
 ghost use Rattle.tds_text.specs.Joining.{Leads, emit};
 ghost use Rattle.tds_text.specs.Plain.{LiesIn};
 ghost use Rattle.tds_csv.specs.Pushing.{PushesPiece};
@@ -13,10 +13,13 @@ use crate::sink::Sink;
 use std::io::Write;
 use tds_packet::Stop;
 use tds_text::lanes::LANES;
-use tds_text::utf16::{character_at, convert};
+use tds_text::utf16::{character_at, convert, convert_plain};
 
 /// How many bytes the text of a chunk has at most, and as many as are written at once.
 const TEXT: usize = 3 * CHUNK / 2 + LANES;
+
+// The least room that a long piece is tried for whose first units are characters of ASCII.
+const MUCH_ROOM: usize = 1024;
 
 /// Text in UTF-16, low byte first.
 #[derive(Drop)]
@@ -58,6 +61,25 @@ fn put_chunk<W: Write>(bytes: &[u8], source: &[u8], sink: &mut Sink<'_, W>) -> R
     Ok(done.used)
 }
 
+// Puts the text of the first units of a long piece, as long as they are characters of ASCII and no quotes and have room in the block, and
+// returns how many bytes they have. It delivers nothing.
+fn put_plain<W: Write>(bytes: &[u8], sink: &mut Sink<'_, W>) -> usize
+    requires { IsWriting sink.old }
+    ensures within { result ≤ length bytes.now }
+    ensures puts { (put : List ℕ) × PutsPiece {U = Unit {0}} W.contents sink.old sink.new put (Ok tt)
+        × Leads utf16.rest utf16.text bytes.now (drop result bytes.now) put }
+{
+    if bytes.len() <= sink.room() || sink.room() < MUCH_ROOM {
+        return 0;
+    }
+    let waiting = sink.waiting() as usize;
+    let room = sink.room() - 1;
+    let end = bytes.len().min(2 * room);
+    let done = convert_plain(bytes, 0, end, sink.spare(room), 0);
+    sink.commit(waiting, done.made);
+    done.used
+}
+
 // Puts the text of the bytes from a place on as far as it is fixed, and returns where the rest begins.
 fn put_from<W: Write>(bytes: &[u8], from: usize, sink: &mut Sink<'_, W>) -> Result<usize, Stop>
     requires writing { IsWriting sink.old }
@@ -67,6 +89,7 @@ fn put_from<W: Write>(bytes: &[u8], from: usize, sink: &mut Sink<'_, W>) -> Resu
 {
     let mut at = from;
     loop {
+        at += put_plain(&bytes[at..], sink);
         let units = units_within(sink.room(), CHUNK / 2);
         let end = bytes.len().min(at + 2 * units);
         at += put_chunk(&bytes[at..end], &bytes[at..], sink)?;

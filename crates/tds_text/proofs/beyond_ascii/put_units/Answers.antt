@@ -3,7 +3,7 @@ use N.beyond_ascii.put_units.Goals as goal
 
 pub returns-then-are_plain : goal.returns-then-are_plain
 returns-then-are_plain c =
-    let added = N.WideText.plain_added c.args.lanes _ _ _ c.args.n c.fits-lanes.0 c.requires.most (omega N.arith)
+    let added = N.WideText.plain_added c.args.lanes _ _ _ c.args.n 8 c.requires.most (omega N.arith)
     c.units_of.ensures c.first_units-units.ensures.first (c.if-are_plain.ensures N.refl) c.low_bytes.ensures c.put_lanes.ensures in
     record { most = omega N.arith; written = added.0; single = added.1 }
 

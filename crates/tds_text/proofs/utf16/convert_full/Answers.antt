@@ -1,6 +1,6 @@
 use Rattle.tds_text.proofs as N
 use N.utf16.convert_full.Goals as goal
-use N.WideText.{eight_more}
+use N.WideText.{all_more}
 
 pub loop-end-preserved : goal.loop-end-preserved
 loop-end-preserved c =
@@ -9,8 +9,8 @@ loop-end-preserved c =
       more = omega N.arith;
       room = omega N.arith;
       long = search N.rules;
-      now = eight_more (omega N.arith) end.single end.most end.written c.loop-end.invariant.now;
+      now = all_more 8 (omega N.arith) end.single end.most end.written c.loop-end.invariant.now;
     }
 
 pub returns-then-at-last-clause-after : goal.returns-then-at-last-clause-after
-returns-then-at-last-clause-after c = let end = c.in-Some.ensures in eight_more (omega N.arith) end.single end.most end.written c.loop-end.invariant.now
+returns-then-at-last-clause-after c = let end = c.in-Some.ensures in all_more 8 (omega N.arith) end.single end.most end.written c.loop-end.invariant.now

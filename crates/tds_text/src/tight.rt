@@ -1,0 +1,129 @@
+// The field of text at the end of the room: text of ASCII, for which there is a byte for each character and a few more.
+ghost use Rattle.std.specs.Prelude.{◌≡◌, ◌+◌, ◌*◌, ◌/◌, ◌%◌, ◌≤◌, length, take, true, IfSome, Some};
+ghost use Rattle.tds_text.specs.Conversion.{Utf16Text, Utf8Text, Windows1252Text};
+ghost use Rattle.tds_text.specs.Fields.{FieldWritten, conversion_of};
+ghost use Rattle.tds_text.specs.Plain.{ArePlain, LiesIn};
+ghost use Rattle.tds_text.specs.Utf16 as utf16;
+
+use crate::beyond_ascii::put_units;
+use crate::encode::{put_lanes, take_plain};
+use crate::fields::{Content, close_quoted};
+use crate::framing::QUOTE;
+use crate::lanes::{LANES, WIDE, wide_stops};
+use crate::lanes_utf16::{MANY_UNITS, UNITS, are_both_plain, units_of};
+use crate::utf16::convert_plain;
+use std::simd::prelude::*;
+
+// How many bytes of room such a field wants besides one for each character.
+const SPARE: usize = 50;
+
+// Writes the text of whole data in UTF-16, if its first units are characters of ASCII and no quotes, and those after the first 15 too.
+#[inline(always)]
+fn convert_utf16(bytes: &[u8], to: &mut [u8]) -> Option<usize>
+    requires many { WIDE ≤ length bytes.now }
+    requires whole { length bytes.now % 2 ≡ 0 }
+    requires room { length bytes.now / 2 + 49 ≤ length to.old }
+    ensures most { IfSome result (λ made. made + 3 ≤ length to.old) }
+    ensures text { IfSome result (λ made. take made to.new ≡ utf16.text bytes.now) }
+{
+    let front = units_of(u8x16::from_slice(bytes));
+    if !are_both_plain(front, units_of(u8x16::from_slice(&bytes[LANES..]))) {
+        return None;
+    }
+    let few = bytes.len() / 2 % MANY_UNITS;
+    let some = few % UNITS;
+    let first = put_units(to, 0, u8x16::from_slice(bytes), some)?;
+    let second = put_units(to, first, u8x16::from_slice(&bytes[2 * some..]), few - some)?;
+    let run = convert_plain(bytes, 2 * few, bytes.len(), to, second);
+    if run.used < bytes.len() {
+        return None;
+    }
+    Some(run.made)
+}
+
+// Writes text in UTF-16, the first `n` of these bytes, as a field.
+#[tactic(auto, using(crate::proofs::QuotedFields::quoted, std::proofs::lemmas::Grind::common_steps))]
+fn write_utf16(source: &[u8], n: usize, to: &mut [u8]) -> Option<usize>
+    requires within { n ≤ length source.now }
+    ensures most { IfSome result (λ made. made + 2 ≤ length to.old) }
+    ensures field { IfSome result (λ made. FieldWritten Utf16Text (take n source.now) to.new (Some made)) }
+{
+    if n % 2 == 1 || n < WIDE || to.len() < n / 2 + SPARE {
+        return None;
+    }
+    to[0] = QUOTE;
+    let made = convert_utf16(&source[..n], &mut to[1..])?;
+    Some(close_quoted(to, 1 + made))
+}
+
+// Writes bytes as they are, 32 at a time, as long as all of them are of ASCII and none is a quote. Returns how many.
+#[inline(always)]
+fn put_wide(bytes: &[u8], to: &mut [u8]) -> usize
+    requires { length bytes.now ≤ length to.old }
+    ensures within { result ≤ length bytes.now }
+    ensures plain { ArePlain (take result bytes.now) }
+    ensures text { take result to.new ≡ take result bytes.now }
+{
+    let mut at = 0;
+    while bytes.len() - at >= WIDE && wide_stops(bytes, at) == 0 {
+        let lanes = u8x32::from_slice(&bytes[at..]);
+        put_lanes(to, at, lanes, WIDE);
+        at += WIDE;
+    }
+    at
+}
+
+// Writes bytes as they are, and returns whether it did: if all of them are of ASCII and none is a quote. What follows them in the
+// source may be looked at.
+#[inline(always)]
+fn put_plain(bytes: &[u8], source: &[u8], to: &mut [u8]) -> bool
+    requires source { LiesIn bytes.now source.now }
+    requires room { length bytes.now + LANES ≤ length to.old }
+    ensures plain { result ≡ true → ArePlain bytes.now }
+    ensures text { result ≡ true → take (length bytes.now) to.new ≡ bytes.now }
+{
+    let mut at = put_wide(bytes, to);
+    while at < bytes.len() {
+        if source.len() - at < LANES {
+            return false;
+        }
+        let n = take_plain(bytes, source, at, to, at);
+        at += n;
+        if n < LANES && at < bytes.len() {
+            return false;
+        }
+    }
+    true
+}
+
+// Writes text in Windows-1252 and UTF-8, the first `n` of these bytes, as a field.
+fn write_bytes(source: &[u8], n: usize, to: &mut [u8]) -> Option<usize>
+    requires within { n ≤ length source.now }
+    ensures most { IfSome result (λ made. made + 2 ≤ length to.old) }
+    ensures windows_1252 { IfSome result (λ made. FieldWritten Windows1252Text (take n source.now) to.new (Some made)) }
+    ensures utf8 { IfSome result (λ made. FieldWritten Utf8Text (take n source.now) to.new (Some made)) }
+{
+    if to.len() < n + SPARE {
+        return None;
+    }
+    to[0] = QUOTE;
+    if !put_plain(&source[..n], source, &mut to[1..]) {
+        return None;
+    }
+    Some(close_quoted(to, 1 + n))
+}
+
+/// Writes the field of a whole value as [`write_field`](crate::write_field) does, for which there isn't the room that any text
+/// may want. `None` for data other than text of ASCII without quotes, and if that doesn't fit either.
+#[inline(never)]
+pub(crate) fn write_tight(content: Content, source: &[u8], n: usize, to: &mut [u8]) -> Option<usize>
+    requires within { n ≤ length source.now }
+    ensures most { IfSome result (λ made. made + 2 ≤ length to.old) }
+    ensures field { IfSome result (λ made. FieldWritten (conversion_of content) (take n source.now) to.new (Some made)) }
+{
+    match content {
+        Content::Binary => None,
+        Content::Utf16 => write_utf16(source, n, to),
+        Content::Windows1252 | Content::Utf8 => write_bytes(source, n, to),
+    }
+}
