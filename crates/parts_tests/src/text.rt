@@ -150,3 +150,96 @@ fn whole_values_are_written(rt: HostRuntime) -> Result<(), Fail> {
     }
     Ok(())
 }
+
+// Text of 64 characters, and the length of its field in less room than any text may want; none where a character isn't of ASCII, or
+// is a quote.
+struct Tight {
+    what: &'static str,
+    content: Content,
+    character: &'static [u8],
+    last: &'static [u8],
+    made: Option<usize>,
+}
+
+const TIGHT: [Tight; 7] = [
+    Tight {
+        what: "ASCII in UTF-16",
+        content: Content::Utf16,
+        character: &[0x61, 0x00],
+        last: &[0x62, 0x00],
+        made: Some(66),
+    },
+    Tight {
+        what: "a character beyond ASCII in UTF-16",
+        content: Content::Utf16,
+        character: &[0x61, 0x00],
+        last: &[0xE9, 0x00],
+        made: None,
+    },
+    Tight {
+        what: "ASCII in Windows-1252",
+        content: Content::Windows1252,
+        character: &[0x61],
+        last: &[0x62],
+        made: Some(66),
+    },
+    Tight {
+        what: "a character beyond ASCII in Windows-1252",
+        content: Content::Windows1252,
+        character: &[0x61],
+        last: &[0xE9],
+        made: None,
+    },
+    Tight {
+        what: "ASCII in UTF-8",
+        content: Content::Utf8,
+        character: &[0x61],
+        last: &[0x62],
+        made: Some(66),
+    },
+    Tight {
+        what: "a quote in UTF-8",
+        content: Content::Utf8,
+        character: &[0x61],
+        last: &[0x22],
+        made: None,
+    },
+    Tight {
+        what: "half a unit",
+        content: Content::Utf16,
+        character: &[0x61, 0x00],
+        last: &[0x62],
+        made: None,
+    },
+];
+
+// The field of such text, in room for 114 bytes.
+fn check_tight(alloc: Global, row: &Tight) -> Result<(), Fail> {
+    let mut source = Vec::new(alloc);
+    let mut want = Vec::new(alloc);
+    want.push(0x22)?;
+    for _ in 0..63 {
+        source.extend_from_slice(row.character)?;
+        want.push(0x61)?;
+    }
+    source.extend_from_slice(row.last)?;
+    want.extend_from_slice(b"b\"")?;
+    if source.len() > 128 {
+        return Err(Fail::new(format_args!("{} is too long", row.what)));
+    }
+    let mut room = [0; 114];
+    let made = write_field(row.content, &source, source.len(), &mut room);
+    same(row.what, &made, &row.made)?;
+    let Some(n) = made else {
+        return Ok(());
+    };
+    same(row.what, &room.get(..n), &Some(&want[..]))
+}
+
+#[test]
+fn text_of_ascii_is_written_where_it_fits(rt: HostRuntime) -> Result<(), Fail> {
+    for row in &TIGHT {
+        check_tight(rt.alloc(), row)?;
+    }
+    Ok(())
+}
