@@ -20,7 +20,7 @@ ROOM = 3_500_000_000
 MOST_JOBS = 4
 
 # What the proofs of all crates take by the clock, from nothing.
-WHOLE = "all of them take 10 to 15 minutes on four processors"
+WHOLE = "all of them take 15 to 22 minutes on four processors"
 
 
 class Progress:
