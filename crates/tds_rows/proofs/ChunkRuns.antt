@@ -1,35 +1,31 @@
 -- Chunks of a long value that lie together, one after the other: their elements, and their text.
-use Rattle.tds_rows.proofs.Words as N
-use Rattle.tds_rows.proofs.Words.{◌≡◌, ◌∙◌, ℕ, ◌+◌, ◌-◌, ◌*◌, ◌<◌, ◌≤◌, Bool, true, List, [], ◌++◌, length, take, drop, ap, sym, refl, arith, Option}
-use Rattle.tds_rows.proofs.Words.{BeginsData, ChunkLength, Conversion, cell, cell_so_far, conversion_rest, added_text, Writes}
-use Rattle.tds_rows.proofs.LongValues.{chunk_holds, content_spelt, text_more}
-use Rattle.tds_rows.proofs.JoinedPieces.{piece_added}
-use Rattle.tds_rows.proofs.Paths.{At, over, path_both}
-use Rattle.tds_rows.proofs.LongValues.{Streamed}
+use Rattle.tds_rows.proofs as N
+use N.{◌≡◌, ◌∙◌, ℕ, ◌+◌, ◌-◌, ◌*◌, ◌<◌, ◌≤◌, Bool, true, List, [], ◌++◌, length, take, drop, ap, arith, Option}
+use N.Paths.{At, over}
 use Rattle.tds_rows.specs.ChunkRuns.{ChunksWritten, RunsChunks}
 use Rattle.tds_cells.proofs.GrammarTexts.{writes_both, writes_none}
 use Rattle.tds_cells.proofs.SeveralChunks.{next_bytes}
 
-module _ (c : Conversion) (column : ℕ) (last : Bool) (total : Option ℕ) where
+module _ (c : N.Conversion) (column : ℕ) (last : Bool) (total : Option ℕ) where
   -- the length of a chunk and its data are elements
   chunk_writes : (content element piece : List ℕ) (n : ℕ) → length element ≡ 4 → N.little element ≡ n → length piece ≡ n → 0 < n
-      → N.within_total total (length content + n) ≡ true → BeginsData c (content ++ piece)
-      → Writes (cell column) (cell_so_far column last) (ChunkLength c total content) (element ++ piece) (added_text c content piece)
-      (ChunkLength c total (content ++ piece))
+      → N.within_total total (length content + n) ≡ true → N.BeginsData c (content ++ piece)
+      → N.Writes (N.Words.cell column) (N.cell_so_far column last) (N.ChunkLength c total content) (element ++ piece) (N.added_text c content piece)
+      (N.ChunkLength c total (content ++ piece))
   chunk_writes content element piece n whole is counted some fits begun =
-      let holds = chunk_holds column c total in
+      let holds = N.LongValues.chunk_holds column c total in
       record {
         spelt = N.Spelt-append _ _ element _ piece _ (N.Spelt-step _ _ _ _ (omega arith) whole (grind arith) (grind arith))
-            (content_spelt last holds content piece n 0 (omega arith) begun (λ _ _. tt));
-        text_is = text_more last holds content piece begun;
+            (N.LongValues.content_spelt last holds content piece n 0 (omega arith) begun (λ _ _. tt));
+        text_is = N.LongValues.text_more last holds content piece begun;
       }
 
   module _ {content kept : List ℕ} where
     -- no chunk
-    pub chunks_none : kept ≡ conversion_rest c content → BeginsData c content → ChunksWritten c column last total content kept 0 [] []
+    pub chunks_none : kept ≡ N.conversion_rest c content → N.BeginsData c content → ChunksWritten c column last total content kept 0 [] []
     chunks_none is begun = record {
       more = [];
-      counted = refl;
+      counted = N.refl;
       begun = rw N.append-nil begun;
       kept_is = rw N.append-nil is;
       writes = rw N.append-nil writes_none;
@@ -38,16 +34,16 @@ module _ (c : Conversion) (column : ℕ) (last : Bool) (total : Option ℕ) wher
     -- one more
     pub chunks_more : {kept' bytes text added : List ℕ} {k n : ℕ} (element piece : List ℕ) → (x : ChunksWritten c column last total content kept k bytes text)
         → length element ≡ 4 → N.little element ≡ n → length piece ≡ n → 0 < n → N.within_total total ((length content + k) + n) ≡ true
-        → BeginsData c ((content ++ x.more) ++ piece) → kept' ≡ conversion_rest c ((content ++ x.more) ++ piece)
-        → added ≡ added_text c (content ++ x.more) piece
+        → N.BeginsData c ((content ++ x.more) ++ piece) → kept' ≡ N.conversion_rest c ((content ++ x.more) ++ piece)
+        → added ≡ N.added_text c (content ++ x.more) piece
         → ChunksWritten c column last total content kept' (k + n) (bytes ++ (element ++ piece)) (text ++ added)
     chunks_more {k = k} {n = n} element piece x whole is counted some fits begun kept_is added_is =
         let regroup = N.append_assoc content x.more piece in
-        let sum : length content + k ≡ length (content ++ x.more) = omega (arith, N.length-append content x.more, x.counted) in
+        let sum : length content + k ≡ length (content ++ x.more) = omega (arith, N.length-append content x.more) in
         let one = chunk_writes (content ++ x.more) element piece n whole is counted some (rw sum at fits) begun in
         record {
           more = x.more ++ piece;
-          counted = omega (arith, N.length-append x.more piece, x.counted);
+          counted = omega (arith, N.length-append x.more piece);
           begun = rw regroup at begun;
           kept_is = rw regroup at kept_is;
           writes = rw (added_is, ← regroup) (writes_both x.writes one);
@@ -64,39 +60,32 @@ pub record HasChunk (bytes : List ℕ) (at : ℕ) (total : Option ℕ) (sum n : 
 pub chunk_lengths : {bytes : List ℕ} {at sum n : ℕ} {total : Option ℕ} → HasChunk bytes at total sum n
     → (length (take 4 (drop at bytes)) ≡ 4) × (length (take n (drop (at + 4) bytes)) ≡ n)
 chunk_lengths {bytes} {at} {sum} {n} x = (
-  N.length-take-le 4 (drop at bytes) (omega (arith, N.length-drop at bytes, x.whole)),
-  N.length-take-le n (drop (at + 4) bytes) (omega (arith, N.length-drop (at + 4) bytes, x.whole)),
+  N.length-take-le 4 (drop at bytes) (omega (arith, N.length-drop at bytes)),
+  N.length-take-le n (drop (at + 4) bytes) (omega (arith, N.length-drop (at + 4) bytes)),
 )
 
 -- chunks that lay together were read, as the words of their conversion say it
-pub run_at : {fit begins : List ℕ → Type 0} {rest text : List ℕ → List ℕ} {size : ℕ} {quoted : Bool} {c : Conversion} {total : Option ℕ}
+pub run_at : {fit begins : List ℕ → Type 0} {rest text : List ℕ → List ℕ} {size : ℕ} {quoted : Bool} {c : N.Conversion} {total : Option ℕ}
     {kept kept' : List ℕ} {sum n : ℕ} {q r : At} → N.Suits fit begins rest text size quoted c
     → over (N.PutsRun (RunsChunks fit begins rest text size quoted kept kept' total sum n)) q r → (column : ℕ) (last : Bool) (content : List ℕ)
-    → kept ≡ conversion_rest c content → BeginsData c content → length content ≡ sum
+    → kept ≡ N.conversion_rest c content → N.BeginsData c content → length content ≡ sum
     → over (N.PutsRun (ChunksWritten c column last total content kept' n)) q r
-run_at {c = c} suits y column last content is begun counted = record {
-  bytes = y.bytes;
-  text = y.text;
-  wrote = y.wrote c suits content is begun counted column last;
-  takes = y.takes;
-  puts = y.puts;
-  place_is = y.place_is;
-}
+run_at {c = c} suits y column last content is begun counted = grind arith
 
 -- and their text was put
-pub streamed_run : {column : ℕ} {last : Bool} {c : Conversion} {total : Option ℕ} {kept kept' : List ℕ} {sum n k : ℕ} {p q r : At}
-    → k ≡ sum + n → Streamed column last c total kept sum p q
-    → ((content : List ℕ) → kept ≡ conversion_rest c content → BeginsData c content → length content ≡ sum
+pub streamed_run : {column : ℕ} {last : Bool} {c : N.Conversion} {total : Option ℕ} {kept kept' : List ℕ} {sum n k : ℕ} {p q r : At}
+    → k ≡ sum + n → N.LongValues.Streamed column last c total kept sum p q
+    → ((content : List ℕ) → kept ≡ N.conversion_rest c content → N.BeginsData c content → length content ≡ sum
     → over (N.PutsRun (ChunksWritten c column last total content kept' n)) q r)
-    → Streamed column last c total kept' k p r
+    → N.LongValues.Streamed column last c total kept' k p r
 streamed_run {p = p} {q} {r} is x run =
     let y = run x.content x.kept_is x.begun x.counted in
     record {
       content = x.content ++ y.wrote.more;
-      counted = omega (arith, is, N.length-append x.content y.wrote.more, x.counted, y.wrote.counted);
+      counted = omega (arith, N.length-append x.content y.wrote.more);
       begun = y.wrote.begun;
       kept_is = y.wrote.kept_is;
-      path = path_both x.path (record {
+      path = N.Paths.path_both x.path (record {
         bytes = y.bytes;
         made = y.text;
         writes = y.wrote.writes;
@@ -109,10 +98,10 @@ streamed_run {p = p} {q} {r} is x run =
 -- the text that a chunk adds has at most three bytes for each of its own
 pub added_most : {begins : List ℕ → Type 0} {rest text : List ℕ → List ℕ} {kept kept' new : List ℕ} {added : ℕ} (n : ℕ) (xs : List ℕ)
     → N.WritesAdded begins rest text kept kept' (take n xs) new added → added ≤ 3 * n
-added_most n xs y = omega (arith, y.short, N.length-take n xs)
+added_most n xs y = omega (arith, N.length-take n xs)
 
 -- one more chunk was written, after those so far
-pub chunk_step : {fit begins : List ℕ → Type 0} {rest text : List ℕ → List ℕ} {size : ℕ} {quoted : Bool} {c : Conversion}
+pub chunk_step : {fit begins : List ℕ → Type 0} {rest text : List ℕ → List ℕ} {size : ℕ} {quoted : Bool} {c : N.Conversion}
     (suits : N.Suits fit begins rest text size quoted c) (column : ℕ) (last : Bool) {total : Option ℕ} {content kept kept' bytes new : List ℕ}
     {at made so_far sum n added : ℕ} (to after : List ℕ) → length content ≡ sum
     → ChunksWritten c column last total content kept so_far (take at bytes) (take made to)
@@ -124,10 +113,10 @@ chunk_step {c = c} suits column last {total} {content} {bytes = bytes} {new} {at
     let whole : take (length bytes - (at + 4)) (drop (at + 4) bytes) ≡ drop (at + 4) bytes =
     N.take_all _ (drop (at + 4) bytes) (omega (arith, N.length-drop (at + 4) bytes)) in
     let sizes = chunk_lengths chunk in
-    let z = piece_added suits (content ++ x.more) x.kept_is x.begun (rw whole at y) in
+    let z = N.JoinedPieces.piece_added suits (content ++ x.more) x.kept_is x.begun (rw whole at y) in
     let within : added ≤ length new = omega (arith, added_most n _ y) in
     let there = N.length-take-le made to room in
     let tail : take (made + added) (take made to ++ (new ++ after)) ≡ take made to ++ take added new =
-    ap (λ k. take (k + added) (take made to ++ (new ++ after))) (sym there) ∙ N.take-append-add (take made to) (new ++ after) added
+    ap (λ k. take (k + added) (take made to ++ (new ++ after))) (N.sym there) ∙ N.take-append-add (take made to) (new ++ after) added
     ∙ ap (λ l. take made to ++ l) (N.take-append-le added new after within) in
     rw (next_bytes bytes at n, tail) (chunks_more c column last total _ _ x sizes.0 chunk.number sizes.1 chunk.some (rw (← counted) at chunk.fits) z.0 z.2 z.1)

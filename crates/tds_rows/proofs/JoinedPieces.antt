@@ -1,8 +1,8 @@
 -- What joiners do with the pieces of some content, in the words of their conversion.
-use Rattle.tds_rows.proofs.Words as N
-use Rattle.tds_rows.proofs.Words.{◌≡◌, ◌∙◌, ℕ, ◌+◌, ◌-◌, ◌^◌, ◌<◌, ◌≤◌, Bool, List, [], ◌++◌, length, inr, sym, ap, subst, arith, Err, Stop, PayloadView, Takes}
-use Rattle.tds_rows.proofs.Words.{IsBetween, BeginsData, Conversion, IsFit, conversion_rest, emit, SinkView, joins_by_name}
-use Rattle.tds_rows.proofs.Paths.{At, StopsEnding, over}
+use Rattle.tds_rows.proofs as N
+use N.{◌≡◌, ◌∙◌, ℕ, ◌+◌, ◌-◌, ◌^◌, ◌<◌, ◌≤◌, Bool, List, [], ◌++◌, length, inr, sym, ap, subst, arith, Err, Stop, Takes, IsBetween, BeginsData, Conversion}
+use N.{IsFit, conversion_rest, emit, SinkView, joins_by_name}
+use N.Paths.{At, over}
 use Rattle.tds_csv.specs.declared.joiners.JoinFault.TheVariants as join_faults
 
 module _ {fit begins : List ℕ → Type 0} {rest text : List ℕ → List ℕ} {size : ℕ} {quoted : Bool} {c : Conversion}
@@ -34,7 +34,7 @@ module _ {fit begins : List ℕ → Type 0} {rest text : List ℕ → List ℕ} 
         let all = begun_with piece x.begun in
         (all, grind arith, x.withheld ∙ suits.rest_is _ ∙ ap (λ o. conversion_rest c (o ++ piece)) is ∙ sym ((joins_by_name c).keeps content piece all))
 
-    piece_bad : {new : List ℕ} {k : ℕ} {h i : SinkView} {column most : ℕ} {a b : PayloadView} {place : ℕ} (piece : List ℕ) → length piece ≤ most
+    piece_bad : {new : List ℕ} {k : ℕ} {h i : SinkView} {column most : ℕ} {a b : N.PayloadView} {place : ℕ} (piece : List ℕ) → length piece ≤ most
         → Takes a b piece 1 → IsBetween b → N.TakesUpTo begins rest text old new h i piece k
         → N.RefusesData c content column most a b place h i (record { fault = N.BadText column; place = N.Payload (place + k) })
     piece_bad {k = k} {a = a} {b = b} piece short takes between x =
@@ -59,7 +59,7 @@ module _ {fit begins : List ℕ → Type 0} {rest text : List ℕ → List ℕ} 
           stop_is = cc;
         }
 
-    piece_breaks : {most : ℕ} {a b : PayloadView} {h i : SinkView} {stop : Stop} (piece : List ℕ) → length piece ≤ most → Takes a b piece 1 → IsBetween b
+    piece_breaks : {most : ℕ} {a b : N.PayloadView} {h i : SinkView} {stop : Stop} (piece : List ℕ) → length piece ≤ most → Takes a b piece 1 → IsBetween b
         → begins old → N.WritesPrefix h i (emit rest text (old ++ piece)) stop → N.WritesPrefixOfData c content most a b h i stop
     piece_breaks piece short takes between begins_old breaks =
         let f = N.begun_front c old piece (grind arith) in
@@ -75,7 +75,7 @@ module _ {fit begins : List ℕ → Type 0} {rest text : List ℕ → List ℕ} 
           breaks = grind arith;
         }
 
-    pub push_stops : {column most : ℕ} {a b : PayloadView} {place : ℕ} {h i : SinkView} {before after : Bool} (new piece : List ℕ) (fault : N.JoinFault)
+    pub push_stops : {column most : ℕ} {a b : N.PayloadView} {place : ℕ} {h i : SinkView} {before after : Bool} (new piece : List ℕ) (fault : N.JoinFault)
         → length piece ≤ most → Takes a b piece 1 → IsBetween b → begins old → before ≡ N.false → after ≡ N.is_stopped {U = Unit {0}} (Err fault)
         → N.Pushes {U = Unit {0}} begins rest text old new h i before piece (Err fault)
         → N.StopsData c content column most a b place h i after (N.join_stop column place fault)
@@ -97,7 +97,7 @@ module _ {fit begins : List ℕ → Type 0} {rest text : List ℕ → List ℕ} 
 
     pub end_stops : {column place : ℕ} {h i : SinkView} {before after : Bool} (new : List ℕ) (unit' : ℕ) (last : Bool) (fault : N.JoinFault)
         → before ≡ N.false → after ≡ N.is_stopped {U = Unit {0}} (Err fault) → N.EndsBy {U = Unit {0}} unit' fit text old new h i before (Err fault)
-        → StopsEnding c quoted last content column place h i after (N.join_stop column place fault)
+        → N.Paths.StopsEnding c quoted last content column place h i after (N.join_stop column place fault)
     end_stops _ _ _ (N.Stopped stop) going failed x =
         grind (arith, N.common_steps, fit_whole)
     end_stops {column = column} {place = place} _ _ _ N.Odd _ failed x =
@@ -126,7 +126,7 @@ module _ (c : Conversion) (content : List ℕ) (begun : BeginsData c content) wh
       ∙ ap (λ l. l ++ N.added_text c (content ++ more) piece) (sym (laws.emits content more front)) ∙ sym (grind arith)
       ∙ ap e regroup ∙ laws.emits content (more ++ piece) (subst (BeginsData c) regroup all))
 
-  fills_none : {p : At} → IsBetween p.seen → length p.held.waiting < 4096 → p.held.delivered ≤ 2 ^ 64 - 1
+  fills_none : {p : At} → IsBetween p.seen → N.HasRoom p.held → N.Counts p.held
       → over (N.FillsData c content) p p []
   fills_none between few delivered = record {
     takes = grind arith;
@@ -138,7 +138,7 @@ module _ (c : Conversion) (content : List ℕ) (begun : BeginsData c content) wh
     delivered = delivered;
   }
 
-  fills_more : {kept more : List ℕ} {n : ℕ} {p q r : At} → length r.held.waiting < 4096 → r.held.delivered ≤ 2 ^ 64 - 1
+  fills_more : {kept more : List ℕ} {n : ℕ} {p q r : At} → N.HasRoom r.held → N.Counts r.held
       → over (N.FillsData c content) p q more
       → (x : over (N.TakesData c (content ++ more) kept) q r n)
       → over (N.FillsData c content) p r (more ++ x.piece)
@@ -161,12 +161,12 @@ pub record Filled (c : Conversion) (content kept : List ℕ) (p q : At) (n left 
   pub kept_is : kept ≡ conversion_rest c (content ++ more)
 
 pub filled_none : {c : Conversion} {content kept : List ℕ} {n : ℕ} {p : At} → BeginsData c content → kept ≡ conversion_rest c content
-    → IsBetween p.seen → length p.held.waiting < 4096 → p.held.delivered ≤ 2 ^ 64 - 1 → Filled c content kept p p n n
+    → IsBetween p.seen → N.HasRoom p.held → N.Counts p.held → Filled c content kept p p n n
 filled_none begun is between few delivered =
     record { more = []; fills = fills_none _ _ begun between few delivered; counted = omega arith; kept_is = search N.rules }
 
 module _ {c : Conversion} {content kept : List ℕ} {p q : At} {n left : ℕ} (begun : BeginsData c content) (x : Filled c content kept p q n left) where
-  pub filled_more : {kept' : List ℕ} {r : At} {k : ℕ} → k ≤ left → length r.held.waiting < 4096 → r.held.delivered ≤ 2 ^ 64 - 1
+  pub filled_more : {kept' : List ℕ} {r : At} {k : ℕ} → k ≤ left → N.HasRoom r.held → N.Counts r.held
       → over (N.TakesData c (content ++ x.more) kept') q r k → Filled c content kept' p r n (left - k)
   filled_more most few delivered y = record {
     more = x.more ++ y.piece;
@@ -175,7 +175,7 @@ module _ {c : Conversion} {content kept : List ℕ} {p q : At} {n left : ℕ} (b
     kept_is = y.kept_is ∙ ap (conversion_rest c) (N.append_assoc content x.more y.piece);
   }
 
-  pub filled_stops : {column : ℕ} {d : PayloadView} {j : SinkView} {failed : Bool} {stop : Stop} → 0 < left
+  pub filled_stops : {column : ℕ} {d : N.PayloadView} {j : SinkView} {failed : Bool} {stop : Stop} → 0 < left
       → N.StopsData c (content ++ x.more) column left q.seen d q.place q.held j failed stop
       → N.StopsFilling c content column n p.seen d p.place p.held j failed stop
   filled_stops some y =
@@ -191,7 +191,7 @@ module _ {c : Conversion} {content kept : List ℕ} {p q : At} {n left : ℕ} (b
       }
 
 -- the end of content that is whole was put, or a write of it failed
-pub end_puts : {W U : Type 0} {contents : W → N.Option (List ℕ)} {b d : N.Sink W} {r : N.Result U Stop} (c : Conversion) (quoted last : Bool)
+pub end_puts : {W U : Type 0} {contents : N.Tells W} {b d : N.Sink W} {r : N.Result U Stop} (c : Conversion) (quoted last : Bool)
     (content : List ℕ) (column place : ℕ) (a : N.Sink W)
     → IsFit c content × N.Puts (N.held contents a) (N.held contents b) (N.conversion_text c (conversion_rest c content)) → b.failed ≡ N.false
     → N.PutsPiece contents b d (N.closing quoted ++ N.end_after last) r → N.EndPut contents c quoted last content column place a d r

@@ -1,13 +1,12 @@
 -- Long values, in the grammar of a cell: the text of their parts, the pieces of their content, and their lengths and ends.
-use Rattle.tds_rows.proofs.Words as N
-use Rattle.tds_rows.proofs.Words.{◌≡◌, ◌∙◌, inl, inr, ℕ, ◌-◌, ◌^◌, ◌<◌, ◌≤◌, Bool, List, [], ◌∷◌, ◌++◌, length, sym, ap, arith, append-nil, Option, Stop}
-use Rattle.tds_rows.proofs.Words.{PayloadView}
-use Rattle.tds_rows.proofs.Words.{Conversion, is_quoted, after_comma, SinkView, Puts, held, CellPart, cell, PutsField, cell_so_far, ending, opening}
-use Rattle.tds_rows.proofs.Words.{◌≢◌, ◌+◌, ChunkLength, ◌⊎◌, suc, true, false, refl, subst, append_assoc, Some, BadText, Spelt, BeginsData, is_fit}
-use Rattle.tds_rows.proofs.Words.{open_field, added_text, WritesPrefix}
+use Rattle.tds_rows.proofs as N
+use N.{◌≡◌, ◌∙◌, inl, inr, ℕ, ◌-◌, ◌^◌, ◌<◌, ◌≤◌, Bool, List, [], ◌∷◌, ◌++◌, length, sym, ap, arith, append-nil, Option, Stop, PayloadView, Conversion}
+use N.{is_quoted, after_comma, SinkView, Puts, held, CellPart, PutsField, cell_so_far, ending, opening, ◌≢◌, ◌+◌, ChunkLength, ◌⊎◌, suc, true, false}
+use N.{refl, subst, append_assoc, Some, BadText, Spelt, BeginsData, is_fit, open_field, added_text}
+use N.Words.{cell}
+use N.Numbers.{Next, short_left, chunk_end, chunk_left}
+use N.Paths.{At, Path, StopsEnding, StopsField, path_both, path_stops, over}
 use Rattle.tds_cells.proofs.SeveralChunks.{emit_none}
-use Rattle.tds_rows.proofs.Numbers.{Next, short_left, chunk_end, chunk_unfit, chunk_left}
-use Rattle.tds_rows.proofs.Paths.{At, Path, StopsEnding, StopsField, path_both, path_of, path_none, path_stops, over}
 use Rattle.tds_cells.proofs.RowTexts.{line_grows, after_append}
 
 -- ---- content, byte by byte
@@ -132,15 +131,15 @@ module _ {column : ℕ} {c : Conversion} {state : ℕ → List ℕ → CellPart}
         );
       }
 
-  module _ (d : List ℕ) (r : ℕ) (a b : PayloadView) (place : ℕ) (h i : SinkView) (stop : Stop) (few : length h.waiting < 4096)
-      (delivered : h.delivered ≤ 2 ^ 64 - 1) where
+  module _ (d : List ℕ) (r : ℕ) (a b : PayloadView) (place : ℕ) (h i : SinkView) (stop : Stop) (few : N.HasRoom h)
+      (delivered : N.Counts h) where
     abbrev Stopped : Bool → Type 0
     Stopped failed = StopsField (state (suc r) d) column last a b place h i failed stop
 
     piece_cut : N.CutsBytes 1 a b place stop → i ≡ h → Stopped false
     piece_cut x same =
         let at = state _ d in
-        let stops = N.cut_at_once _ _ a b _ _ _ _ (omega (arith, x.fewer, holds.size r d)) x.ends (grind arith) in
+        let stops = N.cut_at_once _ _ a b _ _ _ _ (omega arith) x.ends (grind arith) in
         rw same (record { at = at; cause = inl (stops, ([], append-nil _, N.Puts-none h delivered), refl) })
 
     piece_refused : N.RefusesData c d column (suc r) a b place h i stop → Stopped false
@@ -151,13 +150,13 @@ module _ {column : ℕ} {c : Conversion} {state : ℕ → List ℕ → CellPart}
 
     -- a write of the text of a piece failed, whose bytes lead to a state
     broken : (good ahead added : List ℕ) {to : CellPart} → Spelt (cell column) (state (suc r) d) good to → N.Takes a b (good ++ ahead) 1 → N.IsBetween b
-        → cell_so_far column last (state (suc r) d) ++ added ≡ cell_so_far column last to → WritesPrefix h i added stop → Stopped true
+        → cell_so_far column last (state (suc r) d) ++ added ≡ cell_so_far column last to → N.WritesPrefix h i added stop → Stopped true
     broken _ _ _ {to} spelt takes between text_is breaks =
         let x = N.breaks_somewhere _ _ (line_grows column last) _ a b h i _ between to _ _ _ spelt takes few delivered text_is breaks in
         record { at = x.0; cause = grind arith }
 
     piece_broken_at : (ahead p : List ℕ) (x : ℕ) → length (p ++ x ∷ []) ≡ suc r → N.Takes a b ((p ++ x ∷ []) ++ ahead) 1 → N.IsBetween b
-        → BeginsData c (d ++ (p ++ x ∷ [])) → WritesPrefix h i (added_text c d (p ++ x ∷ [])) stop → Stopped true
+        → BeginsData c (d ++ (p ++ x ∷ [])) → N.WritesPrefix h i (added_text c d (p ++ x ∷ [])) stop → Stopped true
     piece_broken_at _ p x all takes between begun breaks =
         let same = sym (append_assoc d p _) in
         elim (holds.ends _ x) [
@@ -228,7 +227,7 @@ module _ {column : ℕ} {c : Conversion} {state : ℕ → List ℕ → CellPart}
 
     -- a write of what ends it failed
     pub ends_break : {j : SinkView} {stop : Stop} (tail : List ℕ) → Good all_content
-        → after_comma column (open_field c all_content) ++ tail ≡ cell_so_far column last (state 0 all_content) → WritesPrefix q.held j tail stop
+        → after_comma column (open_field c all_content) ++ tail ≡ cell_so_far column last (state 0 all_content) → N.WritesPrefix q.held j tail stop
         → StopsField (state m d) column last p.seen q.seen p.place p.held j true stop
     ends_break _ good whole breaks =
         let taken = rw (sym (append-nil x.takes.piece)) at x.takes.takes in
@@ -307,10 +306,10 @@ field_of {value = value} x = record { value = value; streams = grind arith; plac
 -- what was read and put, and then the rest of the field
 pub field_puts : {column : ℕ} {last : Bool} {s t : CellPart} {p q r : At} → Path (cell column) (cell_so_far column last) s p q t
     → over (PutsField t column last) q r → over (PutsField s column last) p r
-field_puts x y = field_of (path_both x (path_of y.streams y.place_is))
+field_puts x y = field_of (path_both x (N.Paths.path_of y.streams y.place_is))
 
 -- the reading stopped before any text
-pub reading_stops : {column place : ℕ} {s : CellPart} {a b : PayloadView} {h : SinkView} {failed : Bool} {stop : Stop} (last : Bool) → h.delivered ≤ 2 ^ 64 - 1
+pub reading_stops : {column place : ℕ} {s : CellPart} {a b : PayloadView} {h : SinkView} {failed : Bool} {stop : Stop} (last : Bool) → N.Counts h
     → failed ≡ false → N.StopsReading (cell column) s a b place s stop → StopsField s column last a b place h h failed stop
 reading_stops {s = s} _ delivered going x = record { at = s; cause = inl (x, ([], append-nil _, N.Puts-none _ delivered), going) }
 
@@ -329,8 +328,8 @@ module _ {column place' : ℕ} {s t : CellPart} {p : At} {b : PayloadView} (last
   }
 
   -- a write of it failed
-  pub next_breaks : {j : SinkView} {failed : Bool} {stop : Stop} (part rest : List ℕ) → length p.held.waiting < 4096 → p.held.delivered ≤ 2 ^ 64 - 1
-      → failed ≡ true → cell_so_far column last s ++ (part ++ rest) ≡ cell_so_far column last t → WritesPrefix p.held j part stop
+  pub next_breaks : {j : SinkView} {failed : Bool} {stop : Stop} (part rest : List ℕ) → N.HasRoom p.held → N.Counts p.held
+      → failed ≡ true → cell_so_far column last s ++ (part ++ rest) ≡ cell_so_far column last t → N.WritesPrefix p.held j part stop
       → StopsField s column last p.seen b p.place p.held j failed stop
   next_breaks part rest few delivered broken text_is breaks = record {
     at = s;
@@ -355,8 +354,8 @@ module _ {column place' : ℕ} {s t : CellPart} {p : At} {b : PayloadView} (last
   }
 
 -- NULL was put, or a write of it failed
-pub null_puts : {column place place' : ℕ} {s : CellPart} {a b : PayloadView} {W U : Type 0} {contents : W
-    → Option (List ℕ)} {h k : N.Sink W} {r : N.Result U Stop} (last : Bool) → Next column s a b place place' (N.WholeCell N.Null)
+pub null_puts : {column place place' : ℕ} {s : CellPart} {a b : PayloadView} {W U : Type 0} {contents : N.Tells W} {h k : N.Sink W} {r : N.Result U Stop}
+    (last : Bool) → Next column s a b place place' (N.WholeCell N.Null)
     → cell_so_far column last s ≡ [] → N.IsWriting h → N.PutsPiece contents h k (N.in_line column last N.null_field) r
     → N.MatchResult r (λ _. PutsField s column last a b place place' (held contents h) (held contents k))
     (λ stop. StopsField s column last a b place (held contents h) (held contents k) k.failed stop)
@@ -389,7 +388,7 @@ module _ (column : ℕ) (last : Bool) (c : Conversion) where
 
   pub empty_stops : {p : At} {b : PayloadView} {place' n : ℕ} {j : SinkView} {failed : Bool} {stop : Stop} {i : SinkView} {there : ℕ}
       → Next column (N.ShortLength c) p.seen b p.place place' (short_left c n []) → n ≡ 0 → Puts p.held i (after_comma column (opening (is_quoted c)))
-      → length p.held.waiting < 4096 → p.held.delivered ≤ 2 ^ 64 - 1
+      → N.HasRoom p.held → N.Counts p.held
       → StopsEnding c (is_quoted c) last [] column there i j failed stop
       → StopsField (N.ShortLength c) column last p.seen b p.place p.held j failed stop
   empty_stops {p = p} {i} x none opened few delivered (inl y) =
@@ -429,8 +428,8 @@ pub record Streamed (column : ℕ) (last : Bool) (c : Conversion) (total : Optio
   pub path : Path (cell column) (cell_so_far column last) (ChunkLength c total []) p q (ChunkLength c total content)
 
 pub streamed_none : {column : ℕ} {last : Bool} {c : Conversion} {total : Option ℕ} {kept : List ℕ} {p : At} → kept ≡ N.conversion_rest c []
-    → p.held.delivered ≤ 2 ^ 64 - 1 → Streamed column last c total kept 0 p p
-streamed_none is delivered = grind (arith, path_none)
+    → N.Counts p.held → Streamed column last c total kept 0 p p
+streamed_none is delivered = grind (arith, N.Paths.path_none)
 
 module _ {column : ℕ} {last : Bool} {c : Conversion} {total : Option ℕ} {kept : List ℕ} {sum : ℕ} {p q : At} (size : ℕ) (unit_is : size ≡ N.unit c)
     (x : Streamed column last c total kept sum p q) {d : PayloadView} {there n : ℕ} (y : N.ReadsNumber 4 q.seen d q.place there n)
@@ -442,7 +441,7 @@ module _ {column : ℕ} {last : Bool} {c : Conversion} {total : Option ℕ} {kep
       let good = (N.fit_by_test c x.content).1 fit in
       field_of (path_both x.path (next_path last (chunk_end c unit_is x.counted y free none good) _ (ending_text column c last x.content good) puts))
 
-  pub chunks_end_stops : {j : SinkView} {failed : Bool} {stop : Stop} → length q.held.waiting < 4096 → q.held.delivered ≤ 2 ^ 64 - 1 → n ≡ 0
+  pub chunks_end_stops : {j : SinkView} {failed : Bool} {stop : Stop} → N.HasRoom q.held → N.Counts q.held → n ≡ 0
       → StopsEnding c (is_quoted c) last x.content column q.place q.held j failed stop
       → StopsField (ChunkLength c total []) column last p.seen d p.place p.held j failed stop
   chunks_end_stops few delivered none (inl z) =
@@ -451,22 +450,23 @@ module _ {column : ℕ} {last : Bool} {c : Conversion} {total : Option ℕ} {kep
       path_stops x.path (next_breaks last (chunk_end c unit_is x.counted y free none good) tail [] few delivered z.2
       (ap (λ l. cell_so_far column last (ChunkLength c total x.content) ++ l) (append-nil tail) ∙ ending_text column c last _ good) z.1)
   chunks_end_stops _ delivered none (inr z) =
-      path_stops x.path (rw (z.1, z.2) (reading_stops last delivered z.3 (chunk_unfit c unit_is x.counted y free none (grind (arith, N.fit_by_test)))))
+      path_stops x.path (rw (z.1, z.2) (reading_stops last delivered z.3 (N.Numbers.chunk_unfit c unit_is x.counted y free none
+      (grind (arith, N.fit_by_test)))))
 
-  pub chunk_path : n ≢ 0 → q.held.delivered ≤ 2 ^ 64 - 1
+  pub chunk_path : {k : ℕ} → k ≡ n → k ≢ 0 → N.Counts q.held
       → Path (cell column) (cell_so_far column last) (ChunkLength c total []) p (record { seen = d; place = there; held = q.held })
-      (chunk_left c total n x.content)
-  chunk_path some delivered =
+      (chunk_left c total k x.content)
+  chunk_path is some delivered =
       let text : cell_so_far column last (ChunkLength c total _) ++ [] ≡ cell_so_far column last _ = grind (arith, append-nil) in
       path_both x.path (next_path _ (grind arith) _ text (N.Puts-none _ delivered))
 
-  pub streamed_more : {kept' : List ℕ} {r : At} → n ≢ 0 → q.held.delivered ≤ 2 ^ 64 - 1 → r.held.delivered ≤ 2 ^ 64 - 1
-      → N.EndsData c x.content kept' d r.seen there r.place q.held r.held n → Streamed column last c total kept' (sum + n) p r
-  streamed_more {r = r} some delivered most z =
+  pub streamed_more : {kept' : List ℕ} {r : At} {k : ℕ} → k ≡ n → k ≢ 0 → N.Counts q.held → N.Counts r.held
+      → N.EndsData c x.content kept' d r.seen there r.place q.held r.held k → Streamed column last c total kept' (sum + k) p r
+  streamed_more {r = r} is some delivered most z =
       record {
         content = _ ++ z.takes.piece;
         counted = omega (arith, N.length-append (x.content ++ z.front) z.takes.piece, N.length-append x.content z.front);
         begun = grind arith;
         kept_is = cc;
-        path = path_both (chunk_path some delivered) (ends_path last (chunk_holds column c total) z [] tt (append-nil _) (N.Puts-none r.held most));
+        path = path_both (chunk_path is some delivered) (ends_path last (chunk_holds column c total) z [] tt (append-nil _) (N.Puts-none r.held most));
       }

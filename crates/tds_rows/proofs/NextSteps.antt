@@ -1,22 +1,17 @@
 -- The next cells of a row, those of a run or one, NULL or not, and rows one after another.
-use Rattle.tds_rows.proofs.Words as N
-use Rattle.tds_rows.proofs.Words.{arith, sym, ◌≡◌, ◌+◌, ◌*◌, ℕ, Bool, true, false, List, ◌∷◌, drop, refl, Err, Ok, Option, ◌==◌, Stop, seen, Column, held, Rows}
-use Rattle.tds_rows.proofs.Words.{Cursor, RowPart, marked, ◌∙◌, ◌-◌, ◌^◌, ◌≤◌, ◌<◌, [], ◌++◌, length, ap, before, PayloadView}
-use Rattle.tds_rows.proofs.Words.{⊤, ◌⊎◌, inl, inr}
-use Rattle.tds_rows.proofs.Words.{Takes}
-use Rattle.tds_rows.proofs.Words.{SinkView, Puts, Charset, Cell, rows, Kind, Knows}
+use Rattle.tds_rows.proofs as N
+use N.{arith, ◌≡◌, ◌+◌, ◌*◌, ℕ, Bool, true, false, List, ◌∷◌, drop, refl, Err, Ok, ◌==◌, Stop, seen, Column, held, Rows, Cursor, RowPart, marked, ◌∙◌}
+use N.{◌-◌, ◌^◌, ◌≤◌, ◌<◌, [], ◌++◌, length, ap, before, PayloadView, ⊤, ◌⊎◌, inl, inr, Takes, SinkView, Puts, Charset, Cell, Kind, Knows}
+use N.Words.{rows}
+use N.NullSteps.{NearsCells, all_put, bitmap_cut, bitmap_nears, cell_nears, cell_stops, null_breaks, null_nears, cell_path, row_ends}
+use N.Paths.{At, here, Path, RowStops, path_both, path_map, path_of, over}
+use N.RunPuts.{run_breaks}
 use Rattle.tds_packet.specs.declared.payload.Payload.{Payload}
-use Rattle.tds_rows.proofs.NullSteps.{NearsCells, all_put, bitmap_cut, bitmap_nears, cell_nears, cell_stops, null_breaks, null_nears, cell_path, marked_stops}
-use Rattle.tds_rows.proofs.NullSteps.{row_ends}
 use Rattle.tds_cells.proofs.RowTexts.{ends, ends_marked, coming, nulls_ahead, none_ahead}
-use Rattle.tds_rows.proofs.RowSteps.{PutsAt, StopsAt, cell_some}
-use Rattle.tds_rows.proofs.Paths.{At, here, Path, RowStops, path_both, path_map, path_none, path_of, over}
-use Rattle.std.proofs.lemmas.Bool.{true≢false}
 use Rattle.tds_cells.proofs.GrammarTexts.{writes_none}
 use Rattle.tds_cells.proofs.RowFormatSteps.{TakesColumn, last_one, next_column}
 use Rattle.tds_cells.proofs.RunSteps.{rows_after, row_among, row_token}
-use Rattle.tds_rows.proofs.RunPuts.{whole_breaks, whole_puts}
-use Rattle.tds_rows.proofs.RunPuts.{run_breaks}
+use Rattle.std.proofs.lemmas.Bool.{true≢false}
 
 -- text that doesn't fill the block waits
 pub all_waits : (h j : SinkView) (text : List ℕ) → Puts h j text → length h.waiting + length text < 4096
@@ -30,8 +25,8 @@ pub record Passes (p q : At) (bytes text : List ℕ) : Type 0 where
   pub takes : Takes p.seen q.seen bytes 0
   pub between : N.IsBetween q.seen
   pub puts : Puts p.held q.held text
-  pub few : length q.held.waiting < 4096
-  pub delivered : p.held.delivered ≤ 2 ^ 64 - 1
+  pub few : N.HasRoom q.held
+  pub delivered : N.Counts p.held
   pub place_is : q.place ≡ p.place + length bytes
 
 -- what was handed out, in two parts
@@ -99,7 +94,7 @@ module _ (charset : Charset) (start : RowPart) (columns : List Column) (nulls : 
           let y' = rw (v.0, v.1, ends_marked w.left nulls (at + 1)) at y in
           null_nears (nears_onward y' z) y'.puts
       go false is z =
-          let put = whole_puts charset _ at _ q r bytes text (w.cell is) (grind arith)
+          let put = N.RunPuts.whole_puts charset _ at _ q r bytes text (w.cell is) (grind arith)
           y.place_is y.puts in
           cell_nears y.between y.few (all_put refl y.delivered z) (rw (ends_marked w.left nulls (at + 1)) at put)
 
@@ -115,7 +110,7 @@ module _ (charset : Charset) (start : RowPart) (columns : List Column) (nulls : 
   -- a write of the text of a column failed, after more was read
   column_breaks : (at : ℕ) (q : At) (d : PayloadView) (j : SinkView) (stop : Stop) (bytes rest text : List ℕ)
       → N.WritesColumn charset columns nulls at bytes text
-      → Takes q.seen d (bytes ++ rest) 0 → N.IsBetween d → length q.held.waiting < 4096 → q.held.delivered ≤ 2 ^ 64 - 1 → N.WritesPrefix q.held j text stop
+      → Takes q.seen d (bytes ++ rest) 0 → N.IsBetween d → N.HasRoom q.held → N.Counts q.held → N.WritesPrefix q.held j text stop
       → Near at q → RowStops charset start p.seen d p.place p.held j true stop
   column_breaks at q d j stop bytes rest text w takes between few delivered breaks x = go _ refl (rw w.next at x)
     where
@@ -123,13 +118,13 @@ module _ (charset : Charset) (start : RowPart) (columns : List Column) (nulls : 
           → NearsCells charset start ((w.column, null) ∷ marked w.left nulls (at + 1)) p q at → RowStops charset start p.seen d p.place p.held j true stop
       go true is z = let v = w.null is in null_breaks rest (rw v.0 at takes) between z (grind arith)
       go false is z = cell_stops (all_put refl delivered z)
-          (rw (ends_marked w.left nulls (at + 1)) at (whole_breaks {a = q.seen} {b = d} {place = q.place} {h = q.held} {j = j} {stop = stop} charset _
+          (rw (ends_marked w.left nulls (at + 1)) at (N.RunPuts.whole_breaks {a = q.seen} {b = d} {place = q.place} {h = q.held} {j = j} {stop = stop} charset _
           rest (w.cell is) takes between few delivered breaks refl))
 
   -- a write of the text of so many columns failed
   marked_breaks : (from n : ℕ) (q : At) (d : PayloadView) (j : SinkView) (stop : Stop) (bytes rest text : List ℕ)
-      → N.WritesMarked charset columns nulls from n bytes text → Takes q.seen d (bytes ++ rest) 0 → N.IsBetween d → length q.held.waiting < 4096
-      → q.held.delivered ≤ 2 ^ 64 - 1 → N.WritesPrefix q.held j text stop → Near from q → RowStops charset start p.seen d p.place p.held j true stop
+      → N.WritesMarked charset columns nulls from n bytes text → Takes q.seen d (bytes ++ rest) 0 → N.IsBetween d → N.HasRoom q.held
+      → N.Counts q.held → N.WritesPrefix q.held j text stop → Near from q → RowStops charset start p.seen d p.place p.held j true stop
   marked_breaks _ N.zero q d j _ _ _ _ w _ _ few _ breaks x =
       grind (arith, N.common_steps)
   marked_breaks from (N.suc n) q d j stop _ rest _ (front, back, first, more, joined, text_is, before, last) takes between few delivered breaks x =
@@ -162,11 +157,8 @@ pub record StaysInRow {R W : Type 0} (old new : Rows R W) : Type 0 where
 pub stays : {R W : Type 0} {a : Rows R W} → IsInRow a → StaysInRow a a
 stays x = grind arith
 
-pub stays_on : {R W : Type 0} {a b c : Rows R W} → StaysInRow a b → StaysInRow b c → StaysInRow a c
+pub stays_on : {R W U : Type 0} {a b c : Rows R W} {u : U} → StaysInRow a b → N.LeavesRows b c (Ok u) → StaysInRow a c
 stays_on x y = grind arith
-
-pub stays_after : {R W U : Type 0} {a b : Rows R W} {u : U} → IsInRow a → N.LeavesRows a b (Ok u) → StaysInRow a b
-stays_after x y = grind arith
 
 -- a call that stopped after others left the reading so
 pub stops_on : {R W U V : Type 0} {a b c : Rows R W} {stop : Stop} → StaysInRow a b → N.LeavesRows {U = U} b c (Err stop)
@@ -182,7 +174,7 @@ last_is : {row_format : N.RowFormat} {columns : List Column} {at after : Cursor}
 last_is nulls knows taken = last_one _ _ _ _ _ knows.counted taken.next ∙ ends_marked _ nulls _
 
 -- the next cell was read, or it stopped
-pub cell_read : {R W U : Type 0} {remaining : R → Option (List ℕ)} {contents : W → Option (List ℕ)} {old new : Rows R W} {at after : Cursor}
+pub cell_read : {R W U : Type 0} {remaining : N.Tells R} {contents : N.Tells W} {old new : Rows R W} {at after : Cursor}
     {kind : Kind} {result : N.Result U Stop} {columns : List Column} (nulls : ℕ → Bool) → N.CellRead remaining contents at kind old new result
     → Knows old.row_format.now columns → (taken : TakesColumn old.row_format.now columns at after kind)
     → N.FieldPut remaining contents (N.cell_start taken.column.kind (N.shape old.row_format.now.charset taken.column.kind)) at.column
@@ -199,16 +191,16 @@ pub record RowsAt (token : N.RowToken) (charset : Charset) (all : List Column) (
       (record { before = before; at = part })
 
 -- nothing is put where the sink stays as it was
-pub none_put : {W : Type 0} (contents : W → Option (List ℕ)) {old new : N.Sink W} → new ≡ old → (held contents old).delivered ≤ 2 ^ 64 - 1
+pub none_put : {W : Type 0} (contents : N.Tells W) {old new : N.Sink W} → new ≡ old → N.Counts (held contents old)
     → Puts (held contents old) (held contents new) []
 none_put _ same d = rw same (N.Puts-none _ d)
 
 module _ {token : N.RowToken} {charset : Charset} {all : List Column} where
-  pub rows_first : {p : At} → p.held.delivered ≤ 2 ^ 64 - 1 → RowsAt token charset all p p 0 (N.row_start token charset all)
-  rows_first d = grind (arith, path_none)
+  pub rows_first : {p : At} → N.Counts p.held → RowsAt token charset all p p 0 (N.row_start token charset all)
+  rows_first d = grind (arith, N.Paths.path_none)
 
   module _ {p q : At} {count : ℕ} where
-    rows_on : {part more : RowPart} {r : At} → RowsAt token charset all p q count part → Path (N.row charset) N.row_so_far part q r more
+    rows_on : {part more : RowPart} {r : At} → RowsAt token charset all p q count part → Path (N.Words.row charset) N.row_so_far part q r more
         → RowsAt token charset all p r count more
     rows_on x y = record { before = x.before; counted = x.counted; path = path_both x.path (path_map (λ a m. row_among _ _ _ _) y) }
 
@@ -258,7 +250,7 @@ rows_further : {charset : Charset} {all : List Column} {p q r : At} {count : ℕ
     (record { before = earlier; at = part' }) → RowsAt N.PlainRow charset all p r (count + length earlier) part'
 rows_further {charset = charset} {all = all} {earlier = earlier} x y = record {
   before = x.before ++ earlier;
-  counted = omega (arith, x.counted, N.length-append x.before earlier);
+  counted = omega (arith, N.length-append x.before earlier);
   path = path_both x.path (rw N.append-nil at (path_map (λ a m. rows_after charset all x.before) y));
 }
 
@@ -266,14 +258,13 @@ module _ {charset : Charset} {all : List Column} {p q : At} {count : ℕ} (x : R
   rows_more : {n : ℕ} {r : At} → over (N.ReadsRows N.PlainRow charset all n) q r → over (N.ReadsRows N.PlainRow charset all (count + n)) p r
   rows_more {n = n} y =
       let z = rows_whole (rows_further x (path_of y.streams y.place_is)) in
-      let all_rows : count + length y.earlier + 1 ≡ count + n = omega (arith, y.counted) in
+      let all_rows : count + length y.earlier + 1 ≡ count + n = omega arith in
       rw all_rows at z
 
   rows_more_stop : {d : PayloadView} {j : SinkView} {failed : Bool} {stop : Stop} → N.RowsStop N.PlainRow charset all q.seen d q.place q.held j failed stop
       → N.RowsStop N.PlainRow charset all p.seen d p.place p.held j failed stop
   rows_more_stop y =
-      let there : At = record { seen = y.middle; place = q.place + length y.streams.bytes; held = y.between } in
-      rows_stop {q = there} (rows_further x (path_of {q = there} y.streams refl)) y.stops
+      rows_stop (rows_further x (path_of y.streams refl)) y.stops
 
 -- ---- ROWs, run after run and cell after cell
 
@@ -288,22 +279,18 @@ module _ {charset : Charset} {all : List Column} {p q : At} {column count : ℕ}
       → ((cells : List Cell) → length cells ≡ column → N.WritesRows charset all cells left left' column' count' bytes made) → Takes q.seen r.seen bytes 0
       → Puts q.held r.held made → r.place ≡ q.place + length bytes → Rowing charset all (coming left' column') p r column' (count + count')
   rowing_run {r = r} {bytes = bytes} x f takes puts at =
-      let y = f x.cells x.counted in
-      let run : Path (rows N.PlainRow charset all) N.rows_so_far (record { before = []; at = N.after_cells charset x.cells _ }) q r
-      (record { before = y.before; at = N.after_cells charset y.more _ }) =
-      record { bytes = bytes; made = _; writes = y.writes; takes = N.Takes-more q.seen r.seen bytes 0 _ (omega arith) takes; puts = puts; place_is = at } in
-      record { cells = y.more; counted = y.counted; rows = rw y.rows_counted at (rows_further x.rows (rw (x.counted, y.counted) at run)) }
+      grind (arith, rows_further)
 
   module _ {c : Column} {ks : List (Column × Bool)} where
     pub rowing_cell : {r : At} → nulls_ahead (column + 1) ks ≡ [] → Rowing charset all ((c, false) ∷ ks) p q column count
-        → PutsAt charset c.kind column (ends ks) q r → Rowing charset all ks p r (column + 1) count
+        → N.RowSteps.PutsAt charset c.kind column (ends ks) q r → Rowing charset all ks p r (column + 1) count
     rowing_cell none x y =
         let one = cell_path _ c x.counted none y in
         record { cells = x.cells ++ one.0 ∷ []; counted = omega (arith, N.length-append x.cells (one.0 ∷ [])); rows = rows_on x.rows one.1 }
 
     pub rowing_stop : {d : PayloadView} {j : SinkView} {failed : Bool} {stop : Stop} → Rowing charset all ((c, false) ∷ ks) p q column count
-        → StopsAt charset c.kind column (ends ks) q d j failed stop → N.RowsStop N.PlainRow charset all p.seen d p.place p.held j failed stop
-    rowing_stop x y = rows_stop x.rows (marked_stops _ _ _ c (rw (N.sym x.counted) at y))
+        → N.RowSteps.StopsAt charset c.kind column (ends ks) q d j failed stop → N.RowsStop N.PlainRow charset all p.seen d p.place p.held j failed stop
+    rowing_stop x y = rows_stop x.rows (N.NullSteps.marked_stops _ _ _ c (rw (N.sym x.counted) at y))
 
 -- ---- the cells of either kind of row, run after run and one by one
 
@@ -325,39 +312,38 @@ token_is N.PlainRow (N.Marked bitmap) _ none = absurd none
 token_is N.NbcRow N.Unmarked _ none = absurd none
 
 -- So it is at this place, whatever columns the row format knows.
-pub record Stands {R W : Type 0} (remaining : R → Option (List ℕ)) (contents : W → Option (List ℕ)) (nulls : N.Nulls) (first rows : Rows R W)
+pub record Stands {R W : Type 0} (remaining : N.Tells R) (contents : N.Tells W) (nulls : N.Nulls) (first rows : Rows R W)
     (at : Cursor) (count : ℕ) : Type 0 where
   pub kept : StaysInRow first rows
   pub reads : (columns : List Column) → Knows first.row_format.now columns → N.IsCursor first.row_format.now columns at
       × standing nulls first.row_format.now.charset columns (here remaining contents first) (here remaining contents rows) at.column count
 
 -- The next cell was put, NULL or as it was read, or the call stopped.
-pub record NextPut {R W : Type 0} (remaining : R → Option (List ℕ)) (contents : W → Option (List ℕ)) (nulls : N.Nulls) (old new : Rows R W)
+pub record NextPut {R W : Type 0} (remaining : N.Tells R) (contents : N.Tells W) (nulls : N.Nulls) (old new : Rows R W)
     (at after : Cursor) (result : N.Result ⊤ Stop) : Type 0 where
   pub kind : Kind
   pub takes : (columns : List Column) → Knows old.row_format.now columns → N.IsCursor old.row_format.now columns at
       → TakesColumn old.row_format.now columns at after kind
   pub read : N.NextRead remaining contents at kind (N.nulls_of nulls at.column) old new result
 
-abbrev pub SomeHere : {R W : Type 0} → (R → Option (List ℕ)) → (W → Option (List ℕ)) → N.RowToken → List Column → Rows R W → Rows R W → N.Result ℕ Stop
+abbrev pub SomeHere : {R W : Type 0} → N.Tells R → N.Tells W → N.RowToken → List Column → Rows R W → Rows R W → N.Result ℕ Stop
     → Type 0
 SomeHere remaining contents token columns old new result = N.SomeRead remaining contents token old.row_format.now.charset columns old.payload.now
     new.payload.now old.sink.now new.sink.now result
 
-passes_on : {R W : Type 0} (remaining : R → Option (List ℕ)) (contents : W → Option (List ℕ)) (old new : Rows R W) {bytes text : List ℕ} → IsInRow old
-    → IsInRow new → Takes (seen remaining old.payload.now) (seen remaining new.payload.now) bytes 0
-    → Puts (held contents old.sink.now) (held contents new.sink.now) text → new.payload.now.place ≡ old.payload.now.place + length bytes
-    → Passes (here remaining contents old) (here remaining contents new) bytes text
-passes_on remaining contents _ new before after takes puts place_is = record {
-  takes = takes;
-  between = N.between_of remaining new.payload.now after.payload.going;
-  puts = puts;
-  few = after.sink.ready.1 after.sink.writing;
-  delivered = before.sink.ready.2;
-  place_is = place_is;
+passes_on : {R W : Type 0} (remaining : N.Tells R) (contents : N.Tells W) {first old new : Rows R W} {f : List ℕ → List ℕ → Type 0}
+    → StaysInRow first old → StaysInRow first new → (run : over (N.PutsRun f) (here remaining contents old) (here remaining contents new))
+    → Passes (here remaining contents old) (here remaining contents new) run.bytes run.text
+passes_on remaining _ {new = new} before after run = record {
+  takes = run.takes;
+  between = N.between_of remaining new.payload.now after.in_row.payload.going;
+  puts = run.puts;
+  few = after.in_row.sink.ready.1 after.in_row.sink.writing;
+  delivered = before.in_row.sink.ready.2;
+  place_is = run.place_is;
 }
 
-module _ {R W : Type 0} (remaining : R → Option (List ℕ)) (contents : W → Option (List ℕ)) (old new : Rows R W) {columns : List Column} (nulls : ℕ
+module _ {R W : Type 0} (remaining : N.Tells R) (contents : N.Tells W) (old new : Rows R W) {columns : List Column} (nulls : ℕ
     → Bool) {at after : Cursor} {kind : Kind} (knows : Knows old.row_format.now columns) (ahead : N.IsCursor old.row_format.now columns at)
     (taken : TakesColumn old.row_format.now columns at after kind) where
   abbrev left : List (Column × Bool)
@@ -367,8 +353,7 @@ module _ {R W : Type 0} (remaining : R → Option (List ℕ)) (contents : W → 
   next_place : {u : ⊤} (null : Bool) → N.NextRead remaining contents at kind null old new (Ok u) → old.payload.now.place ≤ new.payload.now.place
   next_place true x = omega (arith, ap (λ p. p.place) x.0)
   next_place false x =
-      let some = cell_some {p = here remaining contents old} {q = here remaining contents new} _ _ (cell_read nulls x knows taken) in
-      omega (arith, some)
+      omega arith
 
   module _ (p : At) (in_row : IsInRow old) (near : NearsCells old.row_format.now.charset (N.Bitmap columns)
       (marked (drop at.column columns) nulls at.column) p (here remaining contents old) at.column) where
@@ -389,7 +374,7 @@ module _ {R W : Type 0} (remaining : R → Option (List ℕ)) (contents : W → 
         (grind arith) (left_here _ is) (rw (last_is nulls knows taken) at (y.1.gives in_row.sink.writing)))
     next_stops false is y = cell_stops (all_put refl in_row.sink.ready.2 (left_here _ is)) (cell_read nulls y knows taken)
 
-module _ {R W : Type 0} {remaining : R → Option (List ℕ)} {contents : W → Option (List ℕ)} {first old : Rows R W} {from : Cursor} {count : ℕ} where
+module _ {R W : Type 0} {remaining : N.Tells R} {contents : N.Tells W} {first old : Rows R W} {from : Cursor} {count : ℕ} where
   look : {columns : List Column} (nulls : N.Nulls) → Stands remaining contents nulls first old from count → Knows first.row_format.now columns
       → Knows old.row_format.now columns × N.IsCursor old.row_format.now columns from
       × standing nulls old.row_format.now.charset columns (here remaining contents first) (here remaining contents old) from.column count
@@ -404,14 +389,14 @@ module _ {R W : Type 0} {remaining : R → Option (List ℕ)} {contents : W → 
       rw (← x.kept.same.3) (rows_whole (rw (none _ y.0 y.1) at y.2).rows)
   stands_end (N.Marked bitmap) x none knows =
       let y = look (N.Marked bitmap) x knows in
-      (omega (arith, y.2.0), rw (← x.kept.same.3) (row_ends (all_put refl x.kept.in_row.sink.ready.2 (rw (none _ y.0 y.1) at y.2.1))))
+      (omega arith, rw (← x.kept.same.3) (row_ends (all_put refl x.kept.in_row.sink.ready.2 (rw (none _ y.0 y.1) at y.2.1))))
 
   module _ {new : Rows R W} {to : Cursor} where
     -- after the cells of a run
     pub stands_run : {more : ℕ} (nulls : N.Nulls) → Stands remaining contents nulls first old from count
         → N.RunRead remaining contents nulls from to old new (Ok more) → Stands remaining contents nulls first new to (count + more)
     stands_run N.Unmarked x run = record {
-      kept = stays_on x.kept (stays_after x.kept.in_row run.leaves);
+      kept = stays_on x.kept run.leaves;
       reads = λ columns knows.
           let y = look N.Unmarked x knows in
           let put = run.cells in
@@ -419,15 +404,15 @@ module _ {R W : Type 0} {remaining : R → Option (List ℕ)} {contents : W → 
           rw (← x.kept.same.3) (ran.0, rowing_run y.2 (λ cells counted. ran.1 _ cells refl counted) put.takes put.puts put.place_is);
     }
     stands_run (N.Marked bitmap) x run = record {
-      kept = stays_on x.kept (stays_after x.kept.in_row run.leaves);
+      kept = stays_on x.kept run.leaves;
       reads = λ columns knows.
           let y = look (N.Marked bitmap) x knows in
           let put = run.cells in
           let runs = put.wrote.1 _ y.0 y.1 in
           let near = marked_nears _ _ columns (N.bit bitmap.now) _ from.column runs.count (here remaining contents old) (here remaining contents new)
           _ _ runs.writes
-          (passes_on remaining contents old new x.kept.in_row (stays_after x.kept.in_row run.leaves).in_row put.takes put.puts put.place_is) y.2.1 in
-          rw (← x.kept.same.3) (runs.ahead, (omega (arith, y.2.0, put.wrote.0), rw runs.further near));
+          (passes_on remaining contents x.kept (stays_on x.kept run.leaves) put) y.2.1 in
+          rw (← x.kept.same.3) (runs.ahead, (omega arith, rw runs.further near));
     }
 
     -- a write of their text failed
@@ -453,7 +438,7 @@ module _ {R W : Type 0} {remaining : R → Option (List ℕ)} {contents : W → 
     pub stands_next : {u : ⊤} (nulls : N.Nulls) → Stands remaining contents nulls first old from count → N.LeavesRows old new (Ok u)
         → NextPut remaining contents nulls old new from to (Ok u) → Stands remaining contents nulls first new to count
     stands_next N.Unmarked x leaves next = record {
-      kept = stays_on x.kept (stays_after x.kept.in_row leaves);
+      kept = stays_on x.kept leaves;
       reads = λ columns knows.
           let y = look N.Unmarked x knows in
           let t = next.takes _ y.0 y.1 in
@@ -464,7 +449,7 @@ module _ {R W : Type 0} {remaining : R → Option (List ℕ)} {contents : W → 
           );
     }
     stands_next (N.Marked bitmap) x leaves next = record {
-      kept = stays_on x.kept (stays_after x.kept.in_row leaves);
+      kept = stays_on x.kept leaves;
       reads = λ columns knows.
           let y = look (N.Marked bitmap) x knows in
           let t = next.takes _ y.0 y.1 in
@@ -486,7 +471,7 @@ module _ {R W : Type 0} {remaining : R → Option (List ℕ)} {contents : W → 
         (tt, rw (← x.kept.same.3) (next_stops remaining contents old new (N.bit bitmap.now) y.0 y.1 t _ x.kept.in_row y.2.1 _ refl next.read))
 
 -- before the first cell: nothing was read of a ROW, and of an NBCROW the bitmap, which has a bit for each column
-pub stands_first : {R W : Type 0} {remaining : R → Option (List ℕ)} (contents : W → Option (List ℕ)) {first old : Rows R W} {from : Cursor}
+pub stands_first : {R W : Type 0} {remaining : N.Tells R} (contents : N.Tells W) {first old : Rows R W} {from : Cursor}
     (nulls : N.Nulls) (bytes : List ℕ) → N.MarkedBy (token_of nulls) bytes nulls → N.KnowsSome first.row_format.now → N.IsWriting first.sink.now
     → StaysInRow first old → old.sink.now ≡ first.sink.now → from.column ≡ 0
     → ((columns : List Column) → Knows first.row_format.now columns → N.IsCursor first.row_format.now columns from)
@@ -502,29 +487,29 @@ stands_first _ N.Unmarked _ _ _ writing kept sink start ahead read = (
   },
 )
 stands_first _ (N.Marked bitmap) _ is known writing kept sink start ahead read = (
-  omega (arith, ap length is, read.0),
-  omega (arith, read.3),
+  omega (arith, ap length is),
+  omega arith,
   record {
     kept = kept;
     reads = rw sink (λ columns knows.
         let whole = read.0 ∙ ap N.bitmap_length knows.counted in
-        let near = bitmap_nears columns _ (omega (arith, knows.counted, known.2)) whole read.1 read.2 (writing.ready.1 writing.writing)
+        let near = bitmap_nears columns _ (omega arith) whole read.1 read.2 (writing.ready.1 writing.writing)
         writing.ready.2 read.3 in
         (ahead columns knows, (refl, rw (start, is) near)));
   },
 )
 
 -- the payload stopped in it
-pub bitmap_fails : {R W : Type 0} {row_format : N.RowFormat} {columns : List Column} (remaining : R → Option (List ℕ)) (contents : W → Option (List ℕ))
+pub bitmap_fails : {R W : Type 0} {row_format : N.RowFormat} {columns : List Column} (remaining : N.Tells R) (contents : N.Tells W)
     (a b : Payload R) {sink : N.Sink W} (token : N.RowToken) (bytes : List ℕ) (stop : Stop) → N.IsWriting sink → Knows row_format columns
     → 0 < row_format.count → N.BitmapRead {U = ⊤} remaining token a b bytes row_format.count (Err stop)
     → N.SomeRead remaining contents token row_format.charset columns a b sink sink (Err stop)
-bitmap_fails _ _ _ _ N.PlainRow _ _ _ _ _ read = grind (arith, read.1)
+bitmap_fails _ _ _ _ N.PlainRow _ _ _ _ _ read = grind arith
 bitmap_fails _ _ _ _ N.NbcRow _ _ writing knows some x =
-    (tt, rw writing.writing (bitmap_cut _ x.part x.own (omega (arith, x.fewer, knows.counted)) x.ends x.stop_is writing.ready.2))
+    (tt, rw writing.writing (bitmap_cut _ x.part x.own (omega arith) x.ends x.stop_is writing.ready.2))
 
 -- a run and the next cell go on: by a byte, or by a column
-pub next_further : {R W : Type 0} {remaining : R → Option (List ℕ)} {contents : W → Option (List ℕ)} {first old middle new : Rows R W}
+pub next_further : {R W : Type 0} {remaining : N.Tells R} {contents : N.Tells W} {first old middle new : Rows R W}
     {from to after : Cursor} {count more : ℕ} {u : ⊤} (nulls : N.Nulls) → Stands remaining contents nulls first old from count
     → N.RunRead remaining contents nulls from to old middle (Ok more) → N.KnowsSome first.row_format.now
     → NextPut remaining contents nulls middle new to after (Ok u)
@@ -532,14 +517,14 @@ pub next_further : {R W : Type 0} {remaining : R → Option (List ℕ)} {content
     × ((middle.payload.now.place < new.payload.now.place) ⊎ (from.column < after.column))
 next_further N.Unmarked x run known next =
     let y = look N.Unmarked (stands_run N.Unmarked x run) known.1 in
-    let some = cell_some _ _ (cell_read (λ k. false) next.read y.0 (next.takes _ y.0 y.1)) in
-    (omega (arith, some), inl some)
+    let some = N.RowSteps.cell_some _ _ (cell_read (λ k. false) next.read y.0 (next.takes _ y.0 y.1)) in
+    (omega arith, inl some)
 next_further {remaining = remaining} {contents = contents} {middle = middle} {new = new} (N.Marked bitmap) x run known next =
     let from = look (N.Marked bitmap) x known.1 in
     let y = look (N.Marked bitmap) (stands_run (N.Marked bitmap) x run) known.1 in
     let t = next.takes _ y.0 y.1 in (
       next_place remaining contents middle new (N.bit bitmap.now) y.0 y.1 t _ next.read,
-      inr (omega (arith, t.further, (run.cells.wrote.1 _ from.0 from.1).further)),
+      inr (omega (arith, (run.cells.wrote.1 _ from.0 from.1).further)),
     )
 
 -- so less is left of the packets that may come, or of the row
@@ -549,63 +534,64 @@ row_shrinks most most' p q r count count' from after same even within most_colum
 
 -- ---- NBCROWs that are whole in the packet
 
-module _ {charset : Charset} {columns : List Column} {p q : At} where
-  -- its bitmap and its cells were handed out, and their text was put
-  pub whole_row : (bitmap cells text : List ℕ) → 0 < length columns → length bitmap ≡ N.bitmap_length (length columns)
-      → Passes p q (bitmap ++ cells) text → length p.held.waiting < 4096 → q.held.delivered ≤ 2 ^ 64 - 1
-      → N.WritesMarked charset columns (N.bit bitmap) 0 (length columns) cells text → over (N.ReadsRow charset (N.Bitmap columns)) p q
-  whole_row bitmap cells text some whole passes few delivered writes =
-      let t = passes_apart p q bitmap cells [] text passes in
-      let begun = bitmap_nears columns bitmap some whole (grind arith) t.1.between few passes.delivered t.1.place_is in
-      let near = marked_nears charset _ columns (N.bit bitmap) p 0 (length columns) t.0 q cells text writes t.2 (nears_same t.1.puts begun) in
-      let gone : drop (0 + length columns) columns ≡ [] = N.drop_all _ columns (omega arith) in
-      row_ends (all_put refl delivered (rw gone at near))
-
 takes_one : (a b : PayloadView) (bytes : List ℕ) → Takes a b bytes 0 → Takes a b bytes 1
 takes_one _ _ _ x = grind arith
 
 module _ {charset : Charset} {columns : List Column} where
+  -- such a row was handed out, and its line was put
+  whole_row : {p q : At} {bytes line : List ℕ} → 0 < length columns → N.WritesNbcRow charset columns bytes line → Passes p q bytes line
+      → N.HasRoom p.held → N.Counts q.held → over (N.ReadsRow charset (N.Bitmap columns)) p q
+  whole_row {p} {q} {line = line} some row passes few delivered =
+      let t = passes_apart p q row.bitmap row.cells [] line (rw row.joined at passes) in
+      let begun = bitmap_nears columns row.bitmap some row.whole (N.Takes-more p.seen t.0.seen row.bitmap 0 _ (omega arith) t.1.takes) t.1.between few
+      passes.delivered t.1.place_is in
+      let near = marked_nears charset _ columns (N.bit row.bitmap) p 0 (length columns) t.0 q row.cells line row.writes t.2 (nears_same t.1.puts begun) in
+      let gone : drop (0 + length columns) columns ≡ [] = N.drop_all _ columns (omega arith) in
+      row_ends (all_put refl delivered (rw gone at near))
+
+  -- and so were others before it
+  rows_one : {o : At} {count : ℕ} (p q : At) (front row before line : List ℕ) → 0 < length columns → N.Counts q.held
+      → N.WritesNbcRow charset columns row line → Passes p q (front ++ row) (before ++ line)
+      → ((t : At) → Passes p t front before → RowsAt N.NbcRow charset columns o t count (N.Bitmap columns))
+      → over (N.ReadsRows N.NbcRow charset columns (count + 1)) o q
+  rows_one p q front row before line some delivered last passes come =
+      let t = passes_apart p q front row before line passes in
+      rows_row (come t.0 t.1) (whole_row some last t.2 t.1.few delivered)
+
   -- so many of them, each before the token byte of the next, were handed out with it, and their lines were put
-  rows_marked : (n : ℕ) {o : At} {count : ℕ} (p q : At) (bytes text : List ℕ) → 0 < length columns → length p.held.waiting < 4096
-      → N.WritesNbcRows charset columns n bytes text → Passes p q bytes text → RowsAt N.NbcRow charset columns o p count (N.Bitmap columns)
+  rows_marked : (n : ℕ) {o : At} {count : ℕ} (p q : At) (bytes text : List ℕ) → 0 < length columns → N.WritesNbcRows charset columns n bytes text
+      → Passes p q bytes text → RowsAt N.NbcRow charset columns o p count (N.Bitmap columns)
       → RowsAt N.NbcRow charset columns o q (count + n) (N.Bitmap columns)
-  rows_marked N.zero {count = count} p q _ _ _ _ w y x = rw (N.add-zero count) (rows_stay x (rw (w.0, w.1) at y))
-  rows_marked (N.suc n) {count = count} p q _ _ some few (front, row, before, line, joined, text_is, earlier, last) y x =
+  rows_marked N.zero {count = count} p q _ _ _ w y x = rw (N.add-zero count) (rows_stay x (rw (w.0, w.1) at y))
+  rows_marked (N.suc n) {count = count} p q _ _ some (front, row, before, line, joined, text_is, earlier, last) y x =
       let token = N.token_byte N.NbcRow ∷ [] in
-      let t = passes_apart p q front (row ++ token) before line (rw (joined, text_is) at y) in
-      let u = passes_apart t.0 q row token line [] (N.subst (λ l. Passes t.0 q (row ++ token) l) (sym (N.append-nil line)) t.2) in
-      let joined_line = N.subst (λ l. Passes t.0 u.0 l line) last.joined u.1 in
-      let read = rows_row (rows_marked n p t.0 front before some few earlier t.1 x)
-      (whole_row {p = t.0} {q = u.0} last.bitmap last.cells line some last.whole joined_line t.1.few u.2.delivered last.writes) in
+      let u = passes_apart p q (front ++ row) token (before ++ line) [] (rw (N.append_assoc, N.append-nil) (rw (joined, text_is) at y)) in
+      let read = rows_one p u.0 front row before line some u.2.delivered last u.1 (λ t z. rows_marked n p t front before some earlier z x) in
       let counted : count + N.suc n ≡ count + n + 1 = omega arith in
       rw counted (rows_token some read (takes_one u.0.seen q.seen token u.2.takes) u.2.puts u.2.place_is)
 
-  -- and so was one more, which no other follows
-  rows_whole_last : (n : ℕ) {o : At} {count : ℕ} (p q : At) (bytes text : List ℕ) → 0 < length columns → length p.held.waiting < 4096
-      → q.held.delivered ≤ 2 ^ 64 - 1
+  -- and one more, which no other follows
+  rows_last : (n : ℕ) {o : At} {count : ℕ} (p q : At) (bytes text : List ℕ) → 0 < length columns → N.Counts q.held
       → N.WritesWholeRows charset columns n N.true bytes text → Passes p q bytes text → RowsAt N.NbcRow charset columns o p count (N.Bitmap columns)
       → over (N.ReadsRows N.NbcRow charset columns (count + n + 1)) o q
-  rows_whole_last n p q _ _ some few delivered (front, row, earlier_text, line, joined, text_is, earlier, last) y x =
-      let t = passes_apart p q front row earlier_text line (rw (joined, text_is) at y) in
-      let joined_line = N.subst (λ l. Passes t.0 q l line) last.joined t.2 in
-      rows_row (rows_marked n p t.0 front earlier_text some few earlier t.1 x)
-      (whole_row {p = t.0} {q = q} last.bitmap last.cells line some last.whole joined_line t.1.few delivered last.writes)
+  rows_last n p q _ _ some delivered (front, row, before, line, joined, text_is, earlier, last) y x =
+      rows_one p q front row before line some delivered last (rw (joined, text_is) at y) (λ t z. rows_marked n p t front before some earlier z x)
 
 -- ---- rows of either kind, row after row
 
-abbrev SomeFrom : {R W : Type 0} → (R → Option (List ℕ)) → (W → Option (List ℕ)) → N.RowToken → Rows R W → Rows R W → N.Result ℕ Stop → Type 0
+abbrev SomeFrom : {R W : Type 0} → N.Tells R → N.Tells W → N.RowToken → Rows R W → Rows R W → N.Result ℕ Stop → Type 0
 SomeFrom remaining contents token old new result = (columns : List Column) → Knows old.row_format.now columns
     → SomeHere remaining contents token columns old new result
 
 -- Rows were read and their lines put, this many, and the token byte of one more, whatever columns the row format knows.
-pub record RowsCome {R W : Type 0} (remaining : R → Option (List ℕ)) (contents : W → Option (List ℕ)) (token : N.RowToken) (first rows : Rows R W)
+pub record RowsCome {R W : Type 0} (remaining : N.Tells R) (contents : N.Tells W) (token : N.RowToken) (first rows : Rows R W)
     (count : ℕ) : Type 0 where
   pub kept : StaysInRow first rows
   pub reads : (columns : List Column) → Knows first.row_format.now columns
       → RowsAt token first.row_format.now.charset columns (here remaining contents first) (here remaining contents rows) count
       (N.row_start token first.row_format.now.charset columns)
 
-module _ {R W : Type 0} {remaining : R → Option (List ℕ)} {contents : W → Option (List ℕ)} where
+module _ {R W : Type 0} {remaining : N.Tells R} {contents : N.Tells W} where
   pub come_first : {token : N.RowToken} {first : Rows R W} → IsInRow first → RowsCome remaining contents token first first 0
   come_first in_row = record { kept = stays in_row; reads = λ columns knows. rows_first in_row.sink.ready.2 }
 
@@ -615,22 +601,21 @@ module _ {R W : Type 0} {remaining : R → Option (List ℕ)} {contents : W → 
     -- after NBCROWs that went at once, of ROWs none, which another follows
     pub come_taken : (token : N.RowToken) → (token ≡ N.PlainRow → (n ≡ 0) × (last ≡ false)) → RowsCome remaining contents token first old count
         → last ≡ false → RowsCome remaining contents token first new (count + n)
-    come_taken N.PlainRow none x more = let stays = stays_after x.kept.in_row leaves in record {
-      kept = stays_on x.kept stays;
+    come_taken N.PlainRow none x more = let kept = stays_on x.kept leaves in record {
+      kept = kept;
       reads = λ columns knows.
           let y = taken columns (rw (← x.kept.same.3) at knows) in
           let w = rw ((none refl).0, more) at y.wrote in
-          let passes = passes_on remaining contents old new x.kept.in_row stays.in_row y.takes y.puts y.place_is in
+          let passes = passes_on remaining contents x.kept kept y in
           rw ((none refl).0, N.add-zero count) (rows_stay (x.reads columns knows) (rw (w.0, w.1) at passes));
     }
-    come_taken N.NbcRow _ x more = let stays = stays_after x.kept.in_row leaves in record {
-      kept = stays_on x.kept stays;
+    come_taken N.NbcRow _ x more = let kept = stays_on x.kept leaves in record {
+      kept = kept;
       reads = λ columns knows.
           let known = rw (← x.kept.same.3) at knows in
           let y = taken columns known in
-          let sink = x.kept.in_row.sink in
-          rows_marked n _ _ _ _ (omega (arith, known.counted, some)) (sink.ready.1 sink.writing) (rw (x.kept.same.3, more) at y.wrote)
-          (passes_on remaining contents old new x.kept.in_row stays.in_row y.takes y.puts y.place_is) (x.reads columns knows);
+          rows_marked n _ _ _ _ (omega arith) (rw (x.kept.same.3, more) at y.wrote)
+          (passes_on remaining contents x.kept kept y) (x.reads columns knows);
     }
 
     -- and the last, which no other follows
@@ -639,12 +624,11 @@ module _ {R W : Type 0} {remaining : R → Option (List ℕ)} {contents : W → 
         → over (N.ReadsRows token first.row_format.now.charset columns (count + n + 1)) (here remaining contents first) (here remaining contents new)
     come_last N.PlainRow none _ end _ = absurd (true≢false (N.sym end ∙ (none refl).1))
     come_last N.NbcRow _ x end knows =
-        let stays = stays_after x.kept.in_row leaves in
+        let kept = stays_on x.kept leaves in
         let known = rw (← x.kept.same.3) at knows in
         let y = taken _ known in
-        let sink = x.kept.in_row.sink in
-        rows_whole_last n _ _ _ _ (omega (arith, known.counted, some)) (sink.ready.1 sink.writing) stays.in_row.sink.ready.2
-        (rw (x.kept.same.3, end) at y.wrote) (passes_on remaining contents old new x.kept.in_row stays.in_row y.takes y.puts y.place_is) (x.reads _ knows)
+        rows_last n _ _ _ _ (omega arith) kept.in_row.sink.ready.2 (rw (x.kept.same.3, end) at y.wrote)
+        (passes_on remaining contents x.kept kept y) (x.reads _ knows)
 
   module _ {first old new : Rows R W} {count : ℕ} where
     -- a row more was read, or several
@@ -652,7 +636,7 @@ module _ {R W : Type 0} {remaining : R → Option (List ℕ)} {contents : W → 
         → SomeFrom remaining contents token old new (Ok n) → Knows first.row_format.now columns
         → over (N.ReadsRows token first.row_format.now.charset columns (count + n)) (here remaining contents first) (here remaining contents new)
     come_rows N.PlainRow x _ read knows =
-        rows_more (x.reads _ knows) {r = here remaining contents new} (rw x.kept.same.3 at (read _ (rw (← x.kept.same.3) at knows)))
+        rows_more (x.reads _ knows) (rw x.kept.same.3 at (read _ (rw (← x.kept.same.3) at knows)))
     come_rows N.NbcRow x _ read knows =
         let y = rw x.kept.same.3 at (read _ (rw (← x.kept.same.3) at knows)) in
         rw y.0 (rows_row (x.reads _ knows) y.1)
@@ -665,11 +649,11 @@ module _ {R W : Type 0} {remaining : R → Option (List ℕ)} {contents : W → 
         × (after.payload.now.place ≡ new.payload.now.place + 1)
         → RowsCome remaining contents token first after (count + n)
     come_next token x some leaves read stays sink taken =
-        let kept = stays_on x.kept (stays_after x.kept.in_row leaves) in
+        let kept = stays_on x.kept leaves in
         record {
-          kept = stays_on kept (stays_after kept.in_row stays);
+          kept = stays_on kept stays;
           reads = λ columns knows.
-              rows_token (omega (arith, (rw (← x.kept.same.3) at knows).counted, some)) (come_rows token x leaves read knows) taken.0
+              rows_token (omega (arith, (rw (← x.kept.same.3) at knows).counted)) (come_rows token x leaves read knows) taken.0
               (none_put contents sink kept.in_row.sink.ready.2) taken.1;
         }
 

@@ -1,19 +1,18 @@
 -- Rows with NULLs by their bit, column after column, as they are read and their text is put.
-use Rattle.tds_rows.proofs.Words as N
-use Rattle.tds_rows.proofs.Words.{◌≡◌, ◌∙◌, inl, inr, ℕ, ◌+◌, ◌-◌, ◌^◌, ◌<◌, ◌≤◌, Bool, true, false, List, [], ◌∷◌, ◌++◌, length, refl, sym, arith, Stop}
-use Rattle.tds_rows.proofs.Words.{PayloadView}
-use Rattle.tds_rows.proofs.Words.{Column, SinkView, Charset, Cell, CellPart, RowPart, next_cell, row, row_so_far}
-use Rattle.tds_cells.proofs.RowTexts.{begun_text, coming, ends, line_grows, nulls_ahead, nulls_text, part_text, rest_of}
-use Rattle.tds_rows.proofs.RowSteps.{PutsAt, StopsAt, cell_some, StopsCell}
+use Rattle.tds_rows.proofs as N
+use N.{◌≡◌, ◌∙◌, inl, inr, ℕ, ◌+◌, ◌-◌, ◌^◌, ◌<◌, ◌≤◌, Bool, true, false, List, [], ◌∷◌, ◌++◌, length, refl, sym, arith, Stop, PayloadView, Column, SinkView}
+use N.{Charset, Cell, CellPart, RowPart, row_so_far}
+use N.Words.{row}
+use N.RowSteps.{PutsAt, StopsAt, cell_some, StopsCell}
+use N.Paths.{At, Path, RowStops, path_none, path_of, streams_of, over}
+use Rattle.tds_cells.proofs.RowTexts.{begun_text, coming, ends, line_grows, nulls_ahead, nulls_text, part_text, rest_of, row_cell}
 use Rattle.tds_cells.proofs.RowLaws.{begins_open, cell_in_row}
-use Rattle.tds_rows.proofs.Paths.{At, Path, RowStops, path_both, path_map, path_none, path_of, path_stops, streams_of, over}
-use Rattle.tds_cells.proofs.RowTexts.{row_cell}
 
 -- ---- a cell in its row, with the NULLs after it
 
 module _ (charset : Charset) (cells : List Cell) (ks : List (Column × Bool)) where
   abbrev small : N.Grammar CellPart N.Fault
-  small = N.cell (length cells)
+  small = N.Words.cell (length cells)
 
   abbrev big : N.Grammar RowPart N.Fault
   big = row charset
@@ -88,25 +87,25 @@ module _ (charset : Charset) (cells : List Cell) (ks : List (Column × Bool)) wh
 pub record Reads (charset : Charset) (start : RowPart) (left : List (Column × Bool)) (p q : At) (column : ℕ) : Type 0 where
   pub cells : List Cell
   pub counted : length cells ≡ column
-  pub path : Path (row charset) row_so_far start p q (next_cell charset cells left)
+  pub path : Path (row charset) row_so_far start p q (N.next_cell charset cells left)
 
 -- The first cells of a row were read, and their text put but for that of the NULLs by their bit at the front of the columns that are left.
 pub record NearsCells (charset : Charset) (start : RowPart) (left : List (Column × Bool)) (p q : At) (column : ℕ) : Type 0 where
   pub cells : List Cell
   pub counted : length cells ≡ column
-  pub nears : N.LacksTail (row charset) row_so_far start p.seen q.seen p.held q.held (next_cell charset cells left) (nulls_ahead column left)
+  pub nears : N.LacksTail (row charset) row_so_far start p.seen q.seen p.held q.held (N.next_cell charset cells left) (nulls_ahead column left)
   pub place_is : q.place ≡ p.place + length (nears.bytes ++ nears.element)
 
 -- some columns are left, so the line doesn't end there
 all_ahead : (charset : Charset) (columns : List Column) (nulls : ℕ → Bool) → 0 < length columns
-    → nulls_ahead 0 (N.marked columns nulls 0) ≡ row_so_far (next_cell charset [] (N.marked columns nulls 0))
+    → nulls_ahead 0 (N.marked columns nulls 0) ≡ row_so_far (N.next_cell charset [] (N.marked columns nulls 0))
 all_ahead _ [] nulls some = grind arith
 all_ahead _ (c ∷ cs) _ _ = grind (arith, nulls_text)
 
 -- the bitmap was read
 pub bitmap_nears : {charset : Charset} {p : At} {b : PayloadView} {place' : ℕ} (columns : List Column) (bitmap : List ℕ) → 0 < length columns
-    → length bitmap ≡ N.bitmap_length (length columns) → N.Takes p.seen b bitmap (length bitmap) → N.IsBetween b → length p.held.waiting < 4096
-    → p.held.delivered ≤ 2 ^ 64 - 1
+    → length bitmap ≡ N.bitmap_length (length columns) → N.Takes p.seen b bitmap (length bitmap) → N.IsBetween b → N.HasRoom p.held
+    → N.Counts p.held
     → place' ≡ p.place + length bitmap → NearsCells charset (N.Bitmap columns) (N.marked columns (N.bit bitmap) 0) p
     (record { seen = b; place = place'; held = p.held }) 0
 bitmap_nears {p = p} _ bitmap some whole takes between few d at =
@@ -120,7 +119,7 @@ bitmap_nears {p = p} _ bitmap some whole takes between few d at =
 
 -- the payload stopped in the bitmap
 pub bitmap_cut : {columns : List Column} {a b : PayloadView} {place : ℕ} {h : SinkView} {stop : Stop} (charset : Charset) (part : List ℕ) (own : Stop)
-    → length part < N.bitmap_length (length columns) → N.Ends a b part own → stop ≡ N.began_at place own → h.delivered ≤ 2 ^ 64 - 1
+    → length part < N.bitmap_length (length columns) → N.Ends a b part own → stop ≡ N.began_at place own → N.Counts h
     → RowStops charset (N.Bitmap columns) a b place h h false stop
 bitmap_cut _ _ _ fewer ended is d =
     record { at = N.Bitmap _; cause = inl (N.cut_at_once _ _ _ _ _ _ _ _ fewer ended (N.began_is_cut _ _ _ _ refl is), ([], refl, N.Puts-none _ d), refl) }
@@ -128,10 +127,10 @@ bitmap_cut _ _ _ fewer ended is d =
 -- a cell was read and its text put, in its row, and no NULL by its bit is after it
 pub cell_path : {ks : List (Column × Bool)} {column : ℕ} {p q : At} (charset : Charset) (c : Column) {cells : List Cell} → length cells ≡ column
     → nulls_ahead (column + 1) ks ≡ [] → PutsAt charset c.kind column (ends ks) p q
-    → (v : Cell) × Path (row charset) row_so_far (next_cell charset cells ((c, false) ∷ ks)) p q (next_cell charset (cells ++ v ∷ []) ks)
+    → (v : Cell) × Path (row charset) row_so_far (N.next_cell charset cells ((c, false) ∷ ks)) p q (N.next_cell charset (cells ++ v ∷ []) ks)
 cell_path _ c counted none y =
     let z = rw (sym counted) at y in
-    (z.value, path_map (λ a m. row_cell _ _ _ c (rw counted none)) (path_of z.streams z.place_is))
+    (z.value, N.Paths.path_map (λ a m. row_cell _ _ _ c (rw counted none)) (path_of z.streams z.place_is))
 
 further : (a b e l : List ℕ) (m n k : ℕ) → b ++ e ≡ l → n ≡ m + length a → k ≡ n + length l → k ≡ m + length ((a ++ b) ++ e)
 further a b e l m n k joined first second = grind (arith, N.length-append)
@@ -184,14 +183,14 @@ module _ {charset : Charset} {start : RowPart} {c : Column} {ks : List (Column �
       → PutsAt charset c.kind column (ends ks) q r → Reads charset start ks p r (column + 1)
   cell_reads none x y =
       let one = cell_path _ c x.counted none y in
-      record { cells = x.cells ++ one.0 ∷ []; counted = omega (arith, N.length-append x.cells (one.0 ∷ [])); path = path_both x.path one.1 }
+      record { cells = x.cells ++ one.0 ∷ []; counted = omega (arith, N.length-append x.cells (one.0 ∷ [])); path = N.Paths.path_both x.path one.1 }
 
   pub cell_stops : {d : PayloadView} {j : SinkView} {failed : Bool} {stop : Stop} → Reads charset start ((c, false) ∷ ks) p q column
       → StopsAt charset c.kind column (ends ks) q d j failed stop → RowStops charset start p.seen d p.place p.held j failed stop
-  cell_stops x y = path_stops x.path (marked_stops _ _ _ c (rw (sym x.counted) at y))
+  cell_stops x y = N.Paths.path_stops x.path (marked_stops _ _ _ c (rw (sym x.counted) at y))
 
   -- a cell was read and its text put, and NULLs may be after it
-  pub cell_nears : {r : At} → N.IsBetween r.seen → length r.held.waiting < 4096 → Reads charset start ((c, false) ∷ ks) p q column
+  pub cell_nears : {r : At} → N.IsBetween r.seen → N.HasRoom r.held → Reads charset start ((c, false) ∷ ks) p q column
       → PutsAt charset c.kind column (ends ks) q r → NearsCells charset start ks p r (column + 1)
   cell_nears {r = r} between few x y =
       let n = length x.cells in
@@ -213,7 +212,7 @@ module _ {charset : Charset} {start : RowPart} {c : Column} {ks : List (Column �
 
 module _ {charset : Charset} {start : RowPart} {ks : List (Column × Bool)} {p q : At} {column : ℕ} where
   -- no NULL by its bit is next, so all text was put
-  pub all_put : nulls_ahead column ks ≡ [] → q.held.delivered ≤ 2 ^ 64 - 1 → NearsCells charset start ks p q column
+  pub all_put : nulls_ahead column ks ≡ [] → N.Counts q.held → NearsCells charset start ks p q column
       → Reads charset start ks p q column
   all_put none d x =
       let last : N.Puts q.held q.held _ = rw none (N.Puts-none q.held d) in
@@ -225,7 +224,7 @@ module _ {charset : Charset} {start : RowPart} {ks : List (Column × Bool)} {p q
       }
 
 -- before the first column of a ROW, and after the last one of a row
-pub row_begins : {charset : Charset} {p : At} (columns : List Column) → p.held.delivered ≤ 2 ^ 64 - 1
+pub row_begins : {charset : Charset} {p : At} (columns : List Column) → N.Counts p.held
     → Reads charset (N.row_start N.PlainRow charset columns) (coming columns 0) p p 0
 row_begins _ d = grind (arith, path_none)
 

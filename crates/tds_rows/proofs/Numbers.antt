@@ -1,8 +1,8 @@
 -- The numbers of a long value, its length or total and those of its chunks, as elements of its cell: how each is judged, and where it leads.
-use Rattle.tds_rows.proofs.Words as N
-use Rattle.tds_rows.proofs.Words.{◌-◌, ◌%◌, ◌||◌, if◌then◌else◌, ◌≡◌, ◌≢◌, ◌∙◌, ◌⊎◌, ℕ, ◌+◌, ◌<◌, List, [], refl, ap, arith, Option, Some, None, ◌==◌, Fault}
-use Rattle.tds_rows.proofs.Words.{PayloadView, Stop, ◌^◌}
-use Rattle.tds_rows.proofs.Words.{unit, CellPart, ChunkLength, Total, cell}
+use Rattle.tds_rows.proofs as N
+use N.{◌-◌, ◌%◌, ◌||◌, if◌then◌else◌, ◌≡◌, ◌≢◌, ◌∙◌, ◌⊎◌, ℕ, ◌+◌, ◌<◌, List, [], refl, ap, arith, Option, Some, None, ◌==◌, Fault, PayloadView, Stop, ◌^◌, unit}
+use N.{CellPart, ChunkLength, Total}
+use N.Words.{cell}
 use Rattle.tds_packet.specs.declared.payload.Payload.{Payload as Input}
 
 -- within a short value: this many bytes follow its data so far
@@ -128,12 +128,11 @@ pub total_blames : (column size n : ℕ) → NoDevice (total_fault column size n
 total_blames _ _ n = grind arith
 
 -- a length that was refused or cut
-pub length_blames : {R : Type 0} {size : ℕ} {b : PayloadView} {stop : Stop} (remaining : R → Option (List ℕ)) {fault : ℕ → Option Fault} (old : Input R)
+pub length_blames : {R : Type 0} {size : ℕ} {b : PayloadView} {stop : Stop} (remaining : N.Tells R) {fault : ℕ → Option Fault} (old : Input R)
     → old.stopped ≡ None → ((n : ℕ) → NoDevice (fault n))
     → N.RefusesNumber size fault (N.seen remaining old) b old.place stop ⊎ N.CutsBytes size (N.seen remaining old) b old.place stop
     → ReadBlames old.from.now.failures b.failures stop
 length_blames _ _ _ none (N.inl x) = grind arith
 length_blames {b = b} remaining old going _ (N.inr x) =
     let h = N.ends_blame remaining old b x.part x.own going x.ends in
-    let is = ap (λ s. s.fault) x.stop_is in
     (grind arith)

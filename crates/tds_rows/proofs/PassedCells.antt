@@ -1,13 +1,12 @@
 -- The value of a RETURNVALUE, as it is passed over.
-use Rattle.tds_rows.proofs.Words as N
-use Rattle.tds_rows.proofs.Words.{◌≢◌, ◌≡◌, ◌∙◌, ℕ, ◌+◌, ◌-◌, ◌%◌, ◌<◌, ◌≤◌, true, List, [], ◌++◌, length, refl, arith, Option, Stop, PayloadView, Conversion}
-use Rattle.tds_rows.proofs.Words.{Cell}
-use Rattle.tds_rows.proofs.Words.{CellPart, ChunkLength, shape, return_column, AnyData, PassesData, StepsOver}
+use Rattle.tds_rows.proofs as N
+use N.{◌≢◌, ◌≡◌, ◌∙◌, ℕ, ◌+◌, ◌-◌, ◌%◌, ◌<◌, ◌≤◌, true, List, [], ◌++◌, length, refl, arith, Option, Stop, PayloadView, Conversion, Cell, CellPart, ChunkLength}
+use N.{return_column, AnyData, PassesData, StepsOver}
+use N.Words.{cell}
+use N.LongValues.{content_spelt, chunk_holds, short_holds}
 use Rattle.tds_cells.proofs.ValueCells.{null_cell, value_cell}
 use Rattle.tds_cells.proofs.RunSteps.{whole_of}
-use Rattle.tds_rows.proofs.LongValues.{HoldsContent, content_spelt, chunk_holds, short_holds}
 use Rattle.tds_cells.proofs.CellMeaning.{is_ok_value}
-use Rattle.tds_rows.proofs.Numbers.{Next, chunk_start, chunk_left, short_fault, short_left, short_length}
 
 -- ---- elements
 
@@ -34,7 +33,7 @@ stops_after_steps x y = grind (arith, N.stops_after)
 any_begins : {c : Conversion} {size : ℕ} → AnyData c size → (bytes : List ℕ) → N.BeginsData c bytes
 any_begins any bytes = (N.begun_by_test _ bytes).0 (any.begun bytes)
 
-module _ {c : Conversion} {state : ℕ → List ℕ → CellPart} {Good : List ℕ → Type 0} (holds : HoldsContent return_column c state Good)
+module _ {c : Conversion} {state : ℕ → List ℕ → CellPart} {Good : List ℕ → Type 0} (holds : N.LongValues.HoldsContent return_column c state Good)
     (begins : (bytes : List ℕ) → N.BeginsData c bytes) where
   -- all the data was handed out
   data_steps : {m : ℕ} {a b : PayloadView} {place place' : ℕ} (d : List ℕ) (x : PassesData m a b place place') → Good (d ++ x.bytes)
@@ -75,17 +74,17 @@ scalar_stops x = grind arith
 
 -- what is written of a cell is its spelling
 written_spelt : {from : CellPart} {last : N.Bool} {bytes text : List ℕ} → N.WritesCell from return_column last bytes text → (value : Cell)
-    × N.Spelt (N.cell return_column) from bytes (N.WholeCell value)
+    × N.Spelt (cell return_column) from bytes (N.WholeCell value)
 written_spelt x = let whole = whole_of x in (whole.value, whole.spelt)
 
 -- the bytes of a scalar cell whose value isn't refused are a whole cell
 pub scalar_whole : (charset : N.Charset) (kind : N.Kind) (bytes : List ℕ) → N.is_scalar kind ≡ true → length bytes ≡ N.scalar_size kind bytes
     → (0 < N.value_length kind bytes → N.is_ok (N.read_of kind (N.value_bytes kind bytes)) ≡ true)
-    → (value : Cell) × N.Spelt (N.cell return_column) (N.cell_start kind (shape charset kind)) bytes (N.WholeCell value)
+    → (value : Cell) × N.Spelt (cell return_column) (N.start_of charset kind) bytes (N.WholeCell value)
 scalar_whole charset kind bytes scalar whole good = go _ refl
   where
     go : (n : ℕ) → N.value_length kind bytes ≡ n → (value : Cell)
-        × N.Spelt (N.cell return_column) (N.cell_start kind (shape charset kind)) bytes (N.WholeCell value)
+        × N.Spelt (cell return_column) (N.start_of charset kind) bytes (N.WholeCell value)
     go N.zero e =
         let x = null_cell charset kind _ true bytes _ scalar _ refl e (omega arith) refl in
         rw (N.take_all (N.value_start kind + 0) bytes (omega arith)) at (written_spelt x)
@@ -121,9 +120,9 @@ cuts_more {m = m} {a = a} {b = b} {d = d} sum x y = record {
 
 -- a scalar cell whose value isn't refused was read
 pub scalar_passes : {kind : N.Kind} {a b : PayloadView} {place place' : ℕ} {bytes : List ℕ} (charset : N.Charset) → N.is_scalar kind ≡ true
-    → N.GathersCell kind (N.cell_start kind (shape charset kind)) return_column a b place place' bytes
+    → N.GathersCell kind (N.start_of charset kind) return_column a b place place' bytes
     → (0 < N.value_length kind bytes → N.is_ok (N.read_of kind (N.value_bytes kind bytes)) ≡ true)
-    → N.PassesCell (N.cell_start kind (shape charset kind)) a b place place'
+    → N.PassesCell (N.start_of charset kind) a b place place'
 scalar_passes {bytes = bytes} _ scalar x good =
     let v = scalar_whole _ _ _ scalar x.whole good in
     record {
@@ -142,7 +141,7 @@ cell_after x y = record { value = y.value; steps = steps_both x y.steps }
 
 -- the data of a short value after its length
 module _ {c : Conversion} {size n : ℕ} {a b d : PayloadView} {place middle : ℕ} (any : AnyData c size)
-    (x : StepsOver (N.ShortLength c) (short_left c n []) a b place middle) where
+    (x : StepsOver (N.ShortLength c) (N.Numbers.short_left c n []) a b place middle) where
   pub short_passes : {place' : ℕ} → n % size ≡ 0 → PassesData n b d middle place' → N.PassesCell (N.ShortLength c) a d place place'
   short_passes even y = cell_after x (record {
     value = N.DataCell c y.bytes;
@@ -167,7 +166,8 @@ module _ {c : Conversion} {total : Option ℕ} {sum : ℕ} {a b d : PayloadView}
       → N.PassesCell (ChunkLength c total []) a d place there
   chunks_end y = record { value = N.DataCell c x.content; steps = steps_both x.steps y }
 
-  module _ {size n : ℕ} {e : PayloadView} (any : AnyData c size) (y : StepsOver (ChunkLength c total x.content) (chunk_left c total n x.content) b d middle
+  module _ {size n : ℕ} {e : PayloadView} (any : AnyData c size) (y : StepsOver (ChunkLength c total x.content) (N.Numbers.chunk_left c total n x.content) b d
+      middle
       there) where
     pub chunks_more : {place' : ℕ} → PassesData n d e there place' → WalksChunks c total (sum + n) a e place place'
     chunks_more z = record {
@@ -183,13 +183,14 @@ module _ {c : Conversion} {total : Option ℕ} {sum : ℕ} {a b d : PayloadView}
 -- ---- lengths and totals
 
 -- an element was read that leads on
-pub steps_of : {s t : CellPart} {a b : PayloadView} {place place' : ℕ} → Next return_column s a b place place' t → StepsOver s t a b place place'
+pub steps_of : {s t : CellPart} {a b : PayloadView} {place place' : ℕ} → N.Numbers.Next return_column s a b place place' t → StepsOver s t a b place place'
 steps_of x = record { reads = N.reads_one _ _ _ _ _ _ x.next x.takes x.to; between = x.between; place_is = x.place_is }
 
 module _ {c : Conversion} {size : ℕ} (any : AnyData c size) where
   -- a short value has whole units
   pub short_even : {a b : PayloadView} {place place' k : ℕ} {answer : Option ℕ}
-      → ((n : ℕ) × N.ReadsNumber 2 a b place place' n × (short_fault return_column size n ≡ N.None) × (answer ≡ short_length n)) → answer ≡ N.Some k
+      → ((n : ℕ) × N.ReadsNumber 2 a b place place' n × (N.Numbers.short_fault return_column size n ≡ N.None) × (answer ≡ N.Numbers.short_length n))
+      → answer ≡ N.Some k
       → k % size ≡ 0
   short_even x is = grind arith
 
@@ -198,8 +199,8 @@ module _ {c : Conversion} {size : ℕ} (any : AnyData c size) where
     pub end_steps : k ≡ 0 → StepsOver (ChunkLength c total content) (N.WholeCell (N.DataCell c content)) a b place place'
     end_steps ends = grind (arith, steps_of)
 
-    pub chunk_steps : k ≢ 0 → StepsOver (ChunkLength c total content) (chunk_left c total k content) a b place place'
-    chunk_steps some = rw (N.sym is) at (steps_of (chunk_start c (N.sym any.unit_is) counted x free (λ e. some (is ∙ e))))
+    pub chunk_steps : k ≢ 0 → StepsOver (ChunkLength c total content) (N.Numbers.chunk_left c total k content) a b place place'
+    chunk_steps some = rw (N.sym is) at (steps_of (N.Numbers.chunk_start c (N.sym any.unit_is) counted x free (λ e. some (is ∙ e))))
 
 -- ---- the data of a RETURNVALUE may be any bytes
 

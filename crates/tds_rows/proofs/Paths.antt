@@ -1,6 +1,6 @@
 -- What bytes make by a grammar, and how a call that reads them and puts what they make goes from place to place.
-use Rattle.tds_rows.proofs.Words as N
-use Rattle.tds_rows.proofs.Words.{◌≡◌, ◌⊎◌, ℕ, ◌+◌, ◌-◌, ◌^◌, ◌≤◌, List, [], ◌++◌, arith, Fault, Grammar, Option, Writes, SinkView, PayloadView}
+use Rattle.tds_rows.proofs as N
+use N.{◌≡◌, ◌⊎◌, ℕ, ◌+◌, ◌-◌, ◌^◌, ◌≤◌, List, [], ◌++◌, Fault, SinkView, PayloadView}
 use Rattle.tds_packet.specs.declared.payload.Payload.{Payload}
 use Rattle.tds_cells.proofs.GrammarTexts.{writes_both, writes_none}
 
@@ -10,10 +10,10 @@ pub record At : Type 0 where
   pub place : ℕ
   pub held : SinkView
 
-abbrev pub at_of : {R W : Type 0} → (R → Option (List ℕ)) → (W → Option (List ℕ)) → Payload R → N.Sink W → At
+abbrev pub at_of : {R W : Type 0} → N.Tells R → N.Tells W → Payload R → N.Sink W → At
 at_of remaining contents payload sink = record { seen = N.seen remaining payload; place = payload.place; held = N.held contents sink }
 
-abbrev pub here : {R W : Type 0} → (R → Option (List ℕ)) → (W → Option (List ℕ)) → N.Rows R W → At
+abbrev pub here : {R W : Type 0} → N.Tells R → N.Tells W → N.Rows R W → At
 here remaining contents rows = at_of remaining contents rows.payload.now rows.sink.now
 
 -- a relation between two places
@@ -21,15 +21,15 @@ abbrev pub over : {T : Type 1} → (PayloadView → PayloadView → ℕ → ℕ 
 over f p q = f p.seen q.seen p.place q.place p.held q.held
 
 -- From one place to another bytes were read, and what they make was put.
-pub record Path {S : Type 0} (g : Grammar S Fault) (text : S → List ℕ) (s : S) (p q : At) (t : S) : Type 0 where
+pub record Path {S : Type 0} (g : N.Grammar S Fault) (text : S → List ℕ) (s : S) (p q : At) (t : S) : Type 0 where
   pub bytes : List ℕ
   pub made : List ℕ
-  pub writes : Writes g text s bytes made t
+  pub writes : N.Writes g text s bytes made t
   pub takes : N.Takes p.seen q.seen bytes (N.length bytes)
   pub puts : N.Puts p.held q.held made
   pub place_is : q.place ≡ p.place + N.length bytes
 
-module _ {S : Type 0} {g : Grammar S Fault} {text : S → List ℕ} where
+module _ {S : Type 0} {g : N.Grammar S Fault} {text : S → List ℕ} where
   abbrev pub streams_of : {s t : S} {p q : At} → Path g text s p q t → N.Streams g text s p.seen q.seen p.held q.held t
   streams_of x = record { bytes = x.bytes; spelt = x.writes.spelt; takes = x.takes; puts = (x.made, x.writes.text_is, x.puts) }
 
@@ -44,8 +44,8 @@ module _ {S : Type 0} {g : Grammar S Fault} {text : S → List ℕ} where
     place_is = at;
   }
 
-  abbrev pub path_none : {s : S} {p : At} → p.held.delivered ≤ 2 ^ 64 - 1 → Path g text s p p s
-  path_none d = record { bytes = []; made = []; writes = writes_none; takes = N.Takes-none _ 0; puts = N.Puts-none _ d; place_is = omega arith }
+  abbrev pub path_none : {s : S} {p : At} → N.Counts p.held → Path g text s p p s
+  path_none d = record { bytes = []; made = []; writes = writes_none; takes = N.Takes-none _ 0; puts = N.Puts-none _ d; place_is = omega N.arith }
 
   pub path_both : {s t u : S} {p q r : At} → Path g text s p q t → Path g text t q r u → Path g text s p r u
   path_both {p = p} {q = q} {r = r} x y = record {
@@ -54,7 +54,7 @@ module _ {S : Type 0} {g : Grammar S Fault} {text : S → List ℕ} where
     writes = writes_both x.writes y.writes;
     takes = N.takes_both p.seen q.seen r.seen x.bytes y.bytes x.takes y.takes;
     puts = N.Puts-trans _ _ _ _ _ x.puts y.puts;
-    place_is = omega (arith, N.length-append x.bytes y.bytes);
+    place_is = omega (N.arith, N.length-append x.bytes y.bytes);
   }
 
   -- a call that stops after one that doesn't
@@ -63,15 +63,15 @@ module _ {S : Type 0} {g : Grammar S Fault} {text : S → List ℕ} where
   path_stops {p = p} x y = N.streaming_after _ _ _ _ _ _ _ _ _ _ p.place _ _ (streams_of x) (rw x.place_is at y)
 
 -- what is known of all bytes and what they make
-pub path_map : {S T : Type 0} {g : Grammar S Fault} {k : Grammar T Fault} {text : S → List ℕ} {whole : T → List ℕ} {s t : S} {u v : T} {p q : At}
-    → ((a m : List ℕ) → Writes g text s a m t → Writes k whole u a m v) → Path g text s p q t → Path k whole u p q v
+pub path_map : {S T : Type 0} {g : N.Grammar S Fault} {k : N.Grammar T Fault} {text : S → List ℕ} {whole : T → List ℕ} {s t : S} {u v : T} {p q : At}
+    → ((a m : List ℕ) → N.Writes g text s a m t → N.Writes k whole u a m v) → Path g text s p q t → Path k whole u p q v
 path_map f x = search N.rules
 
 -- ---- how a cell, its end and a row stop
 
 -- A cell wasn't read whole or is refused, or a write of its text failed.
 abbrev pub StopsField : N.CellPart → ℕ → N.Bool → PayloadView → PayloadView → ℕ → SinkView → SinkView → N.Bool → N.Stop → Type 0
-StopsField from column last = N.StopsStreaming (N.cell column) (N.cell_so_far column last) from
+StopsField from column last = N.StopsStreaming (N.Words.cell column) (N.cell_so_far column last) from
 
 -- The content is whole, and a write of its end failed; or it isn't, and nothing was put.
 abbrev pub StopsEnding : N.Conversion → N.Bool → N.Bool → List ℕ → ℕ → ℕ → SinkView → SinkView → N.Bool → N.Stop → Type 0
@@ -81,4 +81,4 @@ StopsEnding c quoted last content column place before after failed stop =
 
 -- Reading a row stopped: at an element that is refused or cut, with the text of the state that it reached; or in writing.
 abbrev pub RowStops : N.Charset → N.RowPart → PayloadView → PayloadView → ℕ → SinkView → SinkView → N.Bool → N.Stop → Type 0
-RowStops charset = N.StopsStreaming (N.row charset) N.row_so_far
+RowStops charset = N.StopsStreaming (N.Words.row charset) N.row_so_far

@@ -1,21 +1,19 @@
 -- Runs of cells between a payload and a sink.
-use Rattle.tds_rows.proofs.Words as N
-use Rattle.tds_rows.proofs.Words.{false, ◌≡◌, ℕ, ◌+◌, ◌-◌, ◌≤◌, ◌<◌, Bool, List, [], ◌++◌, length, drop, arith, true, Stop, held}
-use Rattle.tds_rows.proofs.Words.{Column, Charset, Cell, cell_start, shape, row_so_far, WritesRows, after_cells}
-use Rattle.tds_rows.proofs.Words.{Kind, ◌^◌}
+use Rattle.tds_rows.proofs as N
+use N.{◌≡◌, ℕ, ◌+◌, ◌-◌, ◌≤◌, ◌<◌, Bool, List, ◌++◌, length, arith, Stop, held, Kind, ◌^◌}
+use N.RowSteps.{PutsCell, StopsCell}
+use N.Paths.{At, over}
+use Rattle.tds_packet.specs.declared.payload.Payload.{Payload}
 use Rattle.tds_cells.proofs.RowTexts.{line_grows}
-use Rattle.tds_rows.proofs.RowSteps.{PutsCell, StopsCell}
-use Rattle.tds_rows.proofs.Words.{Cursor, IsCursor, RowFormat}
-use Rattle.tds_rows.proofs.Paths.{At, RowStops, over}
 use Rattle.tds_cells.proofs.GrowingTexts.{row_grows}
-use Rattle.tds_cells.proofs.RunSteps.{cell_writes, marked_cells}
+use Rattle.tds_cells.proofs.RunSteps.{cell_writes, marked_cells, whole_of}
 use Rattle.tds_cells.proofs.RowFormatRuns.{marked_in_rows}
 
 -- ---- a cell that lies whole
 
 -- its bytes were passed over and its text put, so it was read
-pub whole_puts : (charset : Charset) (kind : Kind) (column : ℕ) (last : Bool) (p q : At) (bytes text : List ℕ)
-    → N.WritesWhole (cell_start kind (shape charset kind)) column last bytes text
+pub whole_puts : (charset : N.Charset) (kind : Kind) (column : ℕ) (last : Bool) (p q : At) (bytes text : List ℕ)
+    → N.WritesWhole (N.start_of charset kind) column last bytes text
     → N.Takes p.seen q.seen bytes (length bytes) → q.place ≡ p.place + length bytes → N.Puts p.held q.held text
     → over (PutsCell charset kind column last) p q
 whole_puts _ _ _ _ p q _ _ x takes at puts =
@@ -26,10 +24,10 @@ whole_puts _ _ _ _ p q _ _ x takes at puts =
     }
 
 -- its bytes and more were passed over, and a write of its text failed
-pub whole_breaks : {bytes text : List ℕ} {a b : N.PayloadView} {place : ℕ} {h j : N.SinkView} {failed : Bool} {stop : Stop} (charset : Charset)
+pub whole_breaks : {bytes text : List ℕ} {a b : N.PayloadView} {place : ℕ} {h j : N.SinkView} {failed : Bool} {stop : Stop} (charset : N.Charset)
     (kind : Kind) {column : ℕ} {last : Bool} (rest : List ℕ)
-    → N.WritesWhole (cell_start kind (shape charset kind)) column last bytes text
-    → N.Takes a b (bytes ++ rest) 0 → N.IsBetween b → length h.waiting < 4096 → h.delivered ≤ 2 ^ 64 - 1 → N.WritesPrefix h j text stop → failed ≡ true
+    → N.WritesWhole (N.start_of charset kind) column last bytes text
+    → N.Takes a b (bytes ++ rest) 0 → N.IsBetween b → N.HasRoom h → N.Counts h → N.WritesPrefix h j text stop → failed ≡ N.true
     → StopsCell charset kind column last a b place h j failed stop
 whole_breaks {bytes = bytes} {a = a} {b = b} {h = h} {j = j} {stop = stop} _ _ {column} {last} rest x takes between few delivered breaks failed =
     let writes = cell_writes _ _ x in
@@ -37,27 +35,85 @@ whole_breaks {bytes = bytes} {a = a} {b = b} {h = h} {j = j} {stop = stop} _ _ {
     (grind arith) few delivered writes.text_is breaks in
     record { at = broken.0; cause = grind arith }
 
-pub put_whole : {W U : Type 0} {column place' : ℕ} {last : Bool} {bytes text : List ℕ} {contents : W → N.Option (List ℕ)} {old new : N.Sink W}
-    {r : N.Result U Stop} (charset : Charset) (kind : Kind) (a b : N.PayloadView) (place : ℕ) → N.IsWriting old → N.IsBetween b
-    → N.WritesWhole (cell_start kind (shape charset kind)) column last bytes text → N.Takes a b bytes 0 → place' ≡ place + length bytes
+pub put_whole : {W U : Type 0} {column place' : ℕ} {last : Bool} {bytes text : List ℕ} {contents : N.Tells W} {old new : N.Sink W}
+    {r : N.Result U Stop} (charset : N.Charset) (kind : Kind) (a b : N.PayloadView) (place : ℕ) → N.IsWriting old → N.IsBetween b
+    → N.WritesWhole (N.start_of charset kind) column last bytes text → N.Takes a b bytes 0 → place' ≡ place + length bytes
     → N.PutsPiece contents old new text r
     → N.MatchResult r (λ _. PutsCell charset kind column last a b place place' (held contents old) (held contents new))
     (λ stop. StopsCell charset kind column last a b place (held contents old) (held contents new) new.failed stop)
 put_whole {bytes = bytes} {r = N.Ok u} _ _ a b _ _ _ x takes at puts =
     whole_puts _ _ _ _ _ _ _ _ x (grind arith) at puts.gives
 put_whole {r = N.Err stop} _ _ a b _ going between x takes at puts =
-    whole_breaks _ _ [] x (rw N.append-nil takes) between (going.ready.1 going.writing) going.ready.2 (puts.gives going.writing) puts.failed
+    whole_breaks _ _ N.[] x (rw N.append-nil takes) between (going.ready.1 going.writing) going.ready.2 (puts.gives going.writing) puts.failed
+
+-- its text comes with the last element, however many packets its bytes were in
+pub put_cell : {W U : Type 0} {column place' : ℕ} {last : Bool} {bytes text : List ℕ} {contents : N.Tells W} {old new : N.Sink W}
+    {r : N.Result U Stop} (charset : N.Charset) (kind : Kind) (a b : N.PayloadView) (place : ℕ) → N.IsWriting old → N.IsBetween b
+    → N.WritesCell (N.start_of charset kind) column last bytes text → N.Takes a b bytes (length bytes) → place' ≡ place + length bytes
+    → N.PutsPiece contents old new text r
+    → N.MatchResult r (λ _. PutsCell charset kind column last a b place place' (held contents old) (held contents new))
+    (λ stop. StopsCell charset kind column last a b place (held contents old) (held contents new) new.failed stop)
+put_cell {r = N.Ok u} _ _ _ _ _ _ _ x takes at puts = whole_puts _ _ _ _ _ _ _ _ (whole_of x) takes at puts.gives
+put_cell {column = column} {last} {text = text} {contents} {old} {r = N.Err stop} _ kind _ _ _ going between x takes at puts = record {
+  at = x.at;
+  cause = N.inr (
+    record {
+      bytes = x.front;
+      element = x.element;
+      ahead = N.[];
+      spelt = x.spelt;
+      next = x.next;
+      takes = rw (N.append-nil, x.joined) takes;
+      between = between;
+      middle = held contents old;
+      few = going.ready.1 going.writing;
+      puts = N.RowSteps.none_put kind _ column last x.at _ x.quiet going.ready.2;
+      more = text;
+      text_is = grind arith;
+      breaks = puts.gives going.writing;
+    },
+    puts.failed,
+  );
+}
+
+-- the place after bytes of the packet that were handed out
+pub consumed : {R : Type 0} (old : Payload R) {new : Payload R} (n : ℕ) → new ≡ N.further old n → n ≤ length (N.buffered old)
+    → new.place ≡ old.place + length (N.take n (N.buffered old))
+consumed old n is within = omega (arith, N.ap (λ p. p.place) is, N.length-take-le n (N.buffered old) within)
+
+-- ---- what is written into the room that a sink lends
+
+module _ (h j : N.SinkView) (room written : List ℕ) (n : ℕ) (whole : length written ≡ length room) (at : n ≡ length h.waiting) where
+  -- what stands in the area once the room that was lent is written
+  abbrev lent : List ℕ
+  lent = N.overwritten (length h.waiting) written (h.waiting ++ room)
+
+  before : N.take n lent ≡ h.waiting
+  before = grind (arith, N.spare_before)
+
+  after : N.drop n lent ≡ written
+  after = grind (arith, N.spare_written)
+
+  abbrev lent_held : N.SinkView
+  lent_held = record h { waiting = N.take n lent }
+
+  same : lent_held ≡ h
+  same = grind (arith, before)
+
+  -- the text of a cell that was written there was put
+  pub kept_text : (made : ℕ) → N.Puts lent_held j (N.take made (N.drop n lent)) → N.Puts h j (N.take made written)
+  kept_text _ x = grind (arith, after, same)
 
 -- ---- rows
 
 -- a run within a row goes over the ends of none
-pub row_written : {row_format : RowFormat} {from to : Cursor} {bytes text : List ℕ} (nulls : N.Nulls)
+pub row_written : {row_format : N.RowFormat} {from to : N.Cursor} {bytes text : List ℕ} (nulls : N.Nulls)
     → N.CellsWritten row_format (N.nulls_of nulls) from to bytes text → N.RunWritten row_format nulls from to 0 bytes text
 row_written N.Unmarked wrote = λ columns knows ahead. marked_in_rows (wrote columns knows ahead)
 row_written (N.Marked bitmap) wrote = (N.refl, wrote)
 
 -- the cells of a run within a row were passed over, and its text was put
-pub run_put : {W U : Type 0} {contents : W → N.Option (List ℕ)} {row_format : RowFormat} {from to : Cursor} {before after : N.Sink W}
+pub run_put : {W U : Type 0} {contents : N.Tells W} {row_format : N.RowFormat} {from to : N.Cursor} {before after : N.Sink W}
     {bytes text : List ℕ} {place' : ℕ} {r : N.Result U Stop} (nulls : N.Nulls) (a b : N.PayloadView) (place : ℕ)
     → N.CellsWritten row_format (N.nulls_of nulls) from to bytes text → N.Takes a b bytes 0 → N.IsBetween b → place' ≡ place + length bytes
     → N.IsWriting before → N.PutsPiece contents before after text r
@@ -77,14 +133,14 @@ run_put {to = to} {bytes = bytes} {text = text} {r = N.Err stop} _ _ _ _ wrote t
 }
 
 -- a write of their text failed, in the row that the run began in
-pub run_breaks : {row_format : RowFormat} {columns : List Column} {from : Cursor} {a b : N.PayloadView} {h j : N.SinkView} {place : ℕ} {failed : Bool}
-    {stop : N.Stop} (cells : List Cell) → N.WritesPrefixOfRun row_format (λ k. false) from a b h j failed stop → N.Knows row_format columns
-    → IsCursor row_format columns from → length cells ≡ from.column
-    → length h.waiting < 4096 → h.delivered ≤ 2 ^ 64 - 1
-    → RowStops row_format.charset (N.after_cells row_format.charset cells (drop from.column columns)) a b place h j failed stop
+pub run_breaks : {row_format : N.RowFormat} {columns : List N.Column} {from : N.Cursor} {a b : N.PayloadView} {h j : N.SinkView} {place : ℕ} {failed : Bool}
+    {stop : N.Stop} (cells : List N.Cell) → N.WritesPrefixOfRun row_format (λ k. N.false) from a b h j failed stop → N.Knows row_format columns
+    → N.IsCursor row_format columns from → length cells ≡ from.column
+    → N.HasRoom h → N.Counts h
+    → N.Paths.RowStops row_format.charset (N.after_cells row_format.charset cells (N.drop from.column columns)) a b place h j failed stop
 run_breaks {row_format = row_format} {a = a} {b = b} {h = h} {j = j} {stop = stop} cells y knows ahead counted few delivered =
     let runs = y.wrote _ knows ahead in
-    let x = marked_cells {charset = row_format.charset} {cells = cells} runs.count y.bytes _ counted runs.writes in
+    let x = marked_cells runs.count y.bytes _ counted runs.writes in
     let broken = N.breaks_somewhere _ N.row_so_far (row_grows row_format.charset) _ a b h j stop y.between _ y.bytes N.[] _ x.writes.spelt
     (rw N.append-nil (grind arith)) few delivered x.writes.text_is y.breaks in
     record { at = broken.0; cause = grind arith }

@@ -1,8 +1,9 @@
 -- A call that reads what comes whole stops only where a device fails.
-use Rattle.tds_rows.proofs.Words as N
+use Rattle.tds_rows.proofs as N
+use N.{◌≡◌, ◌∙◌, inl, inr, ℕ, ◌+◌, ◌<◌, List, [], ◌∷◌, ◌++◌, length, ap, arith, Ok, Err, if◌then◌else◌, Rose, Fault, Stop, before, Grammar, Spelt, Cell}
+use N.{Brings}
+use N.Words.{row}
 use Rattle.tds_packet.specs.declared.payload.Payload.{Payload}
-use Rattle.tds_rows.proofs.Words.{◌≡◌, ◌∙◌, inl, inr, ℕ, ◌+◌, ◌<◌, List, [], ◌∷◌, ◌++◌, length, ap, arith, Ok, Err, Option, Some, if◌then◌else◌, Rose, Fault}
-use Rattle.tds_rows.proofs.Words.{Stop, before, Grammar, Spelt, PayloadView, Cell, Brings}
 use Rattle.tds_cells.proofs.CellLaws.{cell_is_read}
 use Rattle.tds_cells.proofs.RowLaws.{nbc_row_is_read, row_is_read, some_bitmap}
 use Rattle.tds_cells.proofs.RunSteps.{row_token, row_among_rows}
@@ -13,7 +14,7 @@ rose f = grind arith
 
 -- ---- the reading of what comes whole
 
-module _ {S : Type 0} (g : Grammar S Fault) (from to : S) (a b : PayloadView) (front more : List ℕ) (brings : Brings a (front ++ more))
+module _ {S : Type 0} (g : Grammar S Fault) (from to : S) (a b : N.PayloadView) (front more : List ℕ) (brings : Brings a (front ++ more))
     (last : N.Longest g from (front ++ more) (length front) to) (calm : Rose a.failures b.failures → ⊥) where
   -- what was read is the beginning of what comes
   came : (read : List ℕ) (bytes : List ℕ) → N.Consumes a.left b.left read
@@ -52,7 +53,7 @@ longest_end g _ _ _ more spelt none = N.longest_at g _ _ _ _ spelt (λ d other s
     omega (arith, ap length e, N.length-take-le d more within))
 
 -- a call that reads whole elements to a state at which nothing follows doesn't stop in reading
-none_stops_reading : {S : Type 0} {a b : PayloadView} {place : ℕ} {at : S} {stop : Stop} (g : Grammar S Fault) (from to : S) (front more : List ℕ)
+none_stops_reading : {S : Type 0} {a b : N.PayloadView} {place : ℕ} {at : S} {stop : Stop} (g : Grammar S Fault) (from to : S) (front more : List ℕ)
     → Brings a (front ++ more) → Spelt g from front to → g.size to ≡ 0
     → (Rose a.failures b.failures → ⊥) → N.StopsReading g from a b place at stop → ⊥
 none_stops_reading {stop = stop} g from to front more brings spelt none reads x =
@@ -61,7 +62,7 @@ none_stops_reading {stop = stop} g from to front more brings spelt none reads x 
     omega (arith, ap g.size there)
 
 -- a call that reads whole elements to a state at which nothing follows, and puts their text, doesn't stop
-pub none_stops : {S : Type 0} {a b : PayloadView} {place : ℕ} {h i : N.SinkView} {failed : N.Bool} {stop : Stop} {g : Grammar S Fault} {text : S
+pub none_stops : {S : Type 0} {a b : N.PayloadView} {place : ℕ} {h i : N.SinkView} {failed : N.Bool} {stop : Stop} {g : Grammar S Fault} {text : S
     → List ℕ} {from to : S} {front : List ℕ} (more : List ℕ) → Brings a (front ++ more) → Spelt g from front to → g.size to ≡ 0
     → (Rose a.failures b.failures → ⊥) → (Rose h.failures i.failures → ⊥) → N.StopsStreaming g text from a b place h i failed stop → ⊥
 none_stops {g} _ brings spelt none reads writes x = elim x.cause [
@@ -73,8 +74,8 @@ none_stops {g} _ brings spelt none reads writes x = elim x.cause [
 -- ---- the calls
 
 -- one that reads to such a state and puts the text succeeds
-pub streaming_succeeds : {S R W U : Type 0} {from to : S} {bytes : List ℕ} {g : Grammar S Fault} (text : S → List ℕ) (remaining : R
-    → Option (List ℕ)) (contents : W → Option (List ℕ)) (old new : Payload R) (sink sink' : N.Sink W) (result : N.Result U Stop) (more : List ℕ) (P : U
+pub streaming_succeeds : {S R W U : Type 0} {from to : S} {bytes : List ℕ} {g : Grammar S Fault} (text : S → List ℕ) (remaining : N.Tells R)
+    (contents : N.Tells W) (old new : Payload R) (sink sink' : N.Sink W) (result : N.Result U Stop) (more : List ℕ) (P : U
     → Type 0)
     → N.MatchResult result P (λ stop. N.StopsStreaming g text from (N.seen remaining old) (N.seen remaining new) old.place (N.held contents sink)
     (N.held contents sink') sink'.failed stop) → Spelt g from bytes to → g.size to ≡ 0
@@ -83,7 +84,7 @@ streaming_succeeds _ _ _ _ _ _ _ (Ok x) _ P _ _ _ = grind arith
 streaming_succeeds _ _ _ _ _ _ _ (Err stop) more P put spelt none =
     λ brings reads writes. absurd (none_stops more brings spelt none reads writes put)
 
-pub value_passes : {R U : Type 0} (remaining : R → Option (List ℕ)) (kind : N.Kind) (old new : Payload R) (result : N.Result U Stop) (value : Cell)
+pub value_passes : {R U : Type 0} (remaining : N.Tells R) (kind : N.Kind) (old new : Payload R) (result : N.Result U Stop) (value : Cell)
     (bytes more : List ℕ)
     → N.CellPassed remaining (N.cell_start kind (N.shape N.return_charset kind)) old new result → N.SpellsCell kind (N.shape N.return_charset kind) value bytes
     → Brings (N.seen remaining old) (bytes ++ more) → (Rose old.from.now.failures new.from.now.failures → ⊥) → N.is_ok result ≡ N.true
@@ -93,7 +94,7 @@ value_passes _ _ _ _ (Err stop) _ _ _ passed spelt = λ brings reads.
     absurd (none_stops_reading _ _ _ _ _ brings read N.refl reads passed.stops)
 
 pub long_is_read : (column : ℕ) (kind : N.Kind) (c : N.Conversion) (reach : N.Reach) (value : Cell) (bytes : List ℕ)
-    → N.SpellsCell kind (N.LongShape c reach) value bytes → Spelt (N.cell column) (N.long_start c reach) bytes (N.WholeCell value)
+    → N.SpellsCell kind (N.LongShape c reach) value bytes → Spelt (N.Words.cell column) (N.long_start c reach) bytes (N.WholeCell value)
 long_is_read column kind c N.Short value bytes h = cell_is_read column kind (N.LongShape c N.Short) value bytes tt h
 long_is_read column kind c N.Chunked value bytes h = cell_is_read column kind (N.LongShape c N.Chunked) value bytes tt h
 
@@ -101,13 +102,13 @@ long_is_read column kind c N.Chunked value bytes h = cell_is_read column kind (N
 
 -- what spells a row is read as it
 token_row_is_read : (token : N.RowToken) (charset : N.Charset) (columns : List N.Column) (cells : List Cell) (bytes : List ℕ) → 0 < length columns
-    → N.SpellsRow token charset columns cells bytes → Spelt (N.row charset) (N.row_start token charset columns) bytes (N.WholeRow cells)
+    → N.SpellsRow token charset columns cells bytes → Spelt (row charset) (N.row_start token charset columns) bytes (N.WholeRow cells)
 token_row_is_read N.PlainRow _ _ _ _ some h = row_is_read _ _ _ _ h
 token_row_is_read N.NbcRow charset columns cells bytes some h = nbc_row_is_read charset columns cells bytes (some_bitmap columns some) h
 
 module _ (token : N.RowToken) (charset : N.Charset) (columns : List N.Column) (some_columns : 0 < length columns) where
   abbrev all_rows : Grammar N.RowsPart Fault
-  all_rows = N.rows token charset columns
+  all_rows = N.Words.rows token charset columns
 
   abbrev among : List (List Cell) → N.RowPart → N.RowsPart
   among before part = record { before = before; at = part }
@@ -139,9 +140,9 @@ module _ (token : N.RowToken) (charset : N.Charset) (columns : List N.Column) (s
       → N.Longest all_rows from (front ++ more) (length front) (among earlier (N.WholeRow last))
   longest_rows _ _ _ _ [] spelt none = N.longest_cut _ _ _ _ _ spelt (omega arith)
   longest_rows _ _ _ _ (byte ∷ more) spelt none = N.longest_refused _ _ _ _ _ _ spelt
-      (record { some = omega arith; whole = omega arith; first = ap (λ b. if b then N.None else Some (N.RefusedToken byte)) none })
+      (record { some = omega arith; whole = omega arith; first = ap (λ b. if b then N.None else N.Some (N.RefusedToken byte)) none })
 
-  rows_stop_not : {a b : PayloadView} {place : ℕ} {h i : N.SinkView} {failed : N.Bool} {stop : Stop} (first : List Cell) (later : List (List Cell))
+  rows_stop_not : {a b : N.PayloadView} {place : ℕ} {h i : N.SinkView} {failed : N.Bool} {stop : Stop} (first : List Cell) (later : List (List Cell))
       (front more : List ℕ) → Brings a (front ++ more) → N.SpellsRows token charset columns first later front → N.BeginNoRow token more
       → (Rose a.failures b.failures → ⊥) → (Rose h.failures i.failures → ⊥) → N.RowsStop token charset columns a b place h i failed stop → ⊥
   rows_stop_not {place = place} {stop = stop} first later front more brings spelt none reads writes x = elim x.stops.cause [
@@ -154,12 +155,12 @@ module _ (token : N.RowToken) (charset : N.Charset) (columns : List N.Column) (s
         let all = N.stops_after all_rows _ _ _ x.middle _ place _ stop
         (record { bytes = x.streams.bytes; spelt = grind arith; takes = grind arith }) among_rows in
         let same = stopped_there all_rows _ _ _ _ front more brings (longest_rows _ t.0 t.1 front more t.2 none) reads place _ stop all in
-        omega (arith, ap (N.row charset).size (ap (λ p. p.at) same)))
+        omega (arith, ap (row charset).size (ap (λ p. p.at) same)))
     | inr y ↦
         (grind arith)
   ]
 
-  pub rows_succeed : {R W : Type 0} (remaining : R → Option (List ℕ)) (contents : W → Option (List ℕ)) (old new : Payload R) (before after : N.Sink W)
+  pub rows_succeed : {R W : Type 0} (remaining : N.Tells R) (contents : N.Tells W) (old new : Payload R) (before after : N.Sink W)
       (result : N.Result ℕ Stop) (first : List Cell) (later : List (List Cell)) (bytes more : List ℕ)
       → N.RowsRead remaining contents token charset columns old new before after result → N.SpellsRows token charset columns first later bytes
       → N.BeginNoRow token more → N.SucceedsOn remaining old new before after result (bytes ++ more)

@@ -1,6 +1,6 @@
-use Rattle.tds_rows.proofs.reading.rows_in.Goals as goal
-use Rattle.tds_rows.proofs.Words.{rules}
+use Rattle.tds_rows.proofs as N
+use N.reading.rows_in.Goals as goal
 
 pub returns-clause-rows : goal.returns-clause-rows
 returns-clause-rows g c =
-    search rules
+    search N.rules

@@ -1,6 +1,7 @@
-use Rattle.tds_rows.proofs.cell.chunk_runs.write_chunks.Goals as goal
-use Rattle.tds_rows.proofs.Words.{◌*◌, ◌+◌, ◌≤◌, arith, length, rules}
-use Rattle.tds_rows.proofs.ChunkRuns.{HasChunk, added_most, chunk_step, chunks_none}
+use Rattle.tds_rows.proofs as N
+use N.cell.chunk_runs.write_chunks.Goals as goal
+use N.{◌*◌, ◌+◌, ◌≤◌, arith, length}
+use N.ChunkRuns.{HasChunk, added_most, chunk_step}
 
 pub loop-total-init : goal.loop-total-init
 loop-total-init g c = record {
@@ -8,14 +9,14 @@ loop-total-init g c = record {
   used = omega arith;
   room = omega arith;
   few = omega arith;
-  chunks = λ conversion suits content is begun counted column last. chunks_none conversion column last c.args.total is begun;
+  chunks = λ conversion suits content is begun counted column last. N.ChunkRuns.chunks_none conversion column last c.args.total is begun;
 }
 
 pub loop-total-preserved : goal.loop-total-preserved
 loop-total-preserved g c =
     let l = c.loop-total in
     let w = c.in-Some.ensures in
-    let next = c.next_chunk-n.ensures.chunk (search rules) in
+    let next = c.next_chunk-n.ensures.chunk (search N.rules) in
     let chunk : HasChunk c.args.bytes.now l.at c.args.total (c.args.sum + l.data) c.next_chunk-n.result =
     record { some = omega arith; whole = next.0; number = next.1; fits = next.2 } in
     let fits : 3 * c.next_chunk-n.result ≤ length c.write.new.to = omega arith in

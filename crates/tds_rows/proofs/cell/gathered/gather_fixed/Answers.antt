@@ -1,6 +1,7 @@
-use Rattle.tds_rows.proofs.CellSteps.{fixed_taken}
+use Rattle.tds_rows.proofs as N
+use N.CellSteps.{fixed_ahead, value_taken}
 
-pub returns-clause-cell : Rattle.tds_rows.proofs.cell.gathered.gather_fixed.Goals.returns-clause-cell
+pub returns-clause-cell : N.cell.gathered.gather_fixed.Goals.returns-clause-cell
 returns-clause-cell g c =
-    fixed_taken _ _ _ _ _ _ _ _ c.requires.fixed c.requires.small.0 c.requires.going.going
+    value_taken (fixed_ahead _ _ c.requires.fixed) _ _ _ _ (N.Takes-none _ 0) _ _ _ c.requires.small.0 (omega N.arith) c.requires.going.going
     c.read_into.ensures.place c.read_into.ensures.gives

@@ -1,20 +1,20 @@
-use Rattle.tds_rows.proofs.cell.passed.pass_data.Goals as goal
-use Rattle.tds_rows.proofs.Words.{arith, rules, passed, between_of}
-use Rattle.tds_rows.proofs.PassedCells.{cuts_more, passes_more, passes_none}
+use Rattle.tds_rows.proofs as N
+use N.cell.passed.pass_data.Goals as goal
+use N.{arith}
 
 pub loop-left-init : goal.loop-left-init
 loop-left-init g c = record {
   going = c.requires.going;
-  same = search rules;
+  same = search N.rules;
   most = omega arith;
-  passes = passes_none (omega arith) (between_of g.R.Read.remaining c.args.payload.now c.requires.going.going);
+  passes = N.PassedCells.passes_none (omega arith) (N.between_of g.R.Read.remaining c.args.payload.now c.requires.going.going);
 }
 
 pub returns-in_err-left-clause-data : goal.returns-in_err-left-clause-data
 returns-in_err-left-clause-data g c =
     let l = c.loop-left in
-    passed _ _ _ _ c.from_residual.ensures.1 (cuts_more (omega arith) l.invariant.passes
+    N.passed _ _ _ _ c.from_residual.ensures.1 (N.PassedCells.cuts_more (omega arith) l.invariant.passes
     c.in_err-left.ensures.piece)
 
 pub loop-left-preserved : goal.loop-left-preserved
-loop-left-preserved g c = grind (arith, passes_more)
+loop-left-preserved g c = grind (arith, N.PassedCells.passes_more)

@@ -1,35 +1,38 @@
-use Rattle.tds_rows.proofs.cell.passed.pass_long.Goals as goal
-use Rattle.tds_rows.proofs.Words.{sym, MatchResult-weaker, passed}
-use Rattle.tds_rows.proofs.PassedCells.{cell_after, short_cuts, short_passes, short_even, steps_of, stops_after_steps}
-use Rattle.tds_rows.proofs.Numbers.{short_none, short_start, short_stops, total_none, total_start, total_stops}
+use Rattle.tds_rows.proofs as N
+use N.cell.passed.pass_long.Goals as goal
+use N.{sym}
+use N.PassedCells.{cell_after, short_cuts, short_passes, short_even, steps_of}
 
 pub returns-in_err-n-in-Short-clause-cell : goal.returns-in_err-n-in-Short-clause-cell
 returns-in_err-n-in-Short-clause-cell g c = λ kind conversion any.
-    rw c.in-Short.is (passed _ _ _ _ c.from_residual.ensures.1
-    (record { at = _; stops = short_stops _ (sym any.unit_is) c.in_err-n-in-Short.ensures.length }))
+    rw c.in-Short.is (N.passed _ _ _ _ c.from_residual.ensures.1
+    (record { at = _; stops = N.Numbers.short_stops _ (sym any.unit_is) c.in_err-n-in-Short.ensures.length }))
 
 pub returns-in-None-clause-cell : goal.returns-in-None-clause-cell
 returns-in-None-clause-cell g c = λ kind conversion any.
-    rw c.in-Short.is (record { value = _; steps = steps_of (short_none _ (sym any.unit_is) c.in_ok-n-in-Short.ensures.length c.in-None.is) })
+    rw c.in-Short.is (record { value = _; steps = steps_of (N.Numbers.short_none _ (sym any.unit_is) c.in_ok-n-in-Short.ensures.length c.in-None.is) })
 
 pub returns-in-Some-clause-cell : goal.returns-in-Some-clause-cell
 returns-in-Some-clause-cell g c = λ kind conversion any.
-    let x = steps_of (short_start _ (sym any.unit_is) c.in_ok-n-in-Short.ensures.length c.in-Some.is) in
+    let x = steps_of (N.Numbers.short_start _ (sym any.unit_is) c.in_ok-n-in-Short.ensures.length c.in-Some.is) in
     let even = short_even any c.in_ok-n-in-Short.ensures.length c.in-Some.is in
     rw c.in-Short.is
-    (MatchResult-weaker _ c.pass_data.ensures.data (λ _ y. short_passes any x even y) (λ stop y. short_cuts any x y))
+    (N.MatchResult-weaker _ c.pass_data.ensures.data (λ _ y. short_passes any x even y) (λ stop y. short_cuts any x y))
 
 pub returns-in_err-total-in-Chunked-clause-cell : goal.returns-in_err-total-in-Chunked-clause-cell
 returns-in_err-total-in-Chunked-clause-cell g c = λ kind conversion any.
-    rw c.in-Chunked.is (passed _ _ _ _ c.from_residual-in_err-total-in-Chunked.ensures.1
-    (record { at = _; stops = total_stops _ (sym any.unit_is) c.in_err-total-in-Chunked.ensures.length }))
+    rw c.in-Chunked.is (N.passed _ _ _ _ c.from_residual-in_err-total-in-Chunked.ensures.1
+    (record { at = _; stops = N.Numbers.total_stops _ (sym any.unit_is) c.in_err-total-in-Chunked.ensures.length }))
 
 pub returns-in-None-2-clause-cell : goal.returns-in-None-2-clause-cell
 returns-in-None-2-clause-cell g c = λ kind conversion any.
-    rw c.in-Chunked.is (record { value = _; steps = steps_of (total_none _ (sym any.unit_is) c.in_ok-total-in-Chunked.ensures.length c.in-None-2.is) })
+    rw c.in-Chunked.is (record {
+      value = _;
+      steps = steps_of (N.Numbers.total_none _ (sym any.unit_is) c.in_ok-total-in-Chunked.ensures.length c.in-None-2.is);
+    })
 
 pub returns-in-Some-2-clause-cell : goal.returns-in-Some-2-clause-cell
 returns-in-Some-2-clause-cell g c = λ kind conversion any.
-    let x = steps_of (total_start _ (sym any.unit_is) c.in_ok-total-in-Chunked.ensures.length c.in-Some-2.is) in
+    let x = steps_of (N.Numbers.total_start _ (sym any.unit_is) c.in_ok-total-in-Chunked.ensures.length c.in-Some-2.is) in
     rw c.in-Chunked.is
-    (MatchResult-weaker _ (c.pass_chunks.ensures.cell conversion any) (λ _ y. cell_after x y) (λ stop y. stops_after_steps x y))
+    (N.MatchResult-weaker _ (c.pass_chunks.ensures.cell conversion any) (λ _ y. cell_after x y) (λ stop y. N.PassedCells.stops_after_steps x y))

@@ -1,18 +1,18 @@
-use Rattle.tds_rows.proofs.cell.passed.pass_over.Goals as goal
-use Rattle.tds_rows.proofs.Words.{inl, inr, Binary, Narrow, Wide}
-use Rattle.tds_rows.proofs.PassedCells.{any_hex, any_narrow, any_wide}
-use Rattle.tds_rows.proofs.Successes.{value_passes}
+use Rattle.tds_rows.proofs as N
+use N.cell.passed.pass_over.Goals as goal
+use N.{inl, inr}
+use N.Successes.{value_passes}
 
 pub returns-in-Binary-clause-cell : goal.returns-in-Binary-clause-cell
 returns-in-Binary-clause-cell g c = λ _.
     elim c.in-Binary.is [
-      | inl is ↦ rw is (c.pass_long-in-Binary.ensures.cell (Binary c.in-Binary.reach) _ any_hex)
+      | inl is ↦ rw is (c.pass_long-in-Binary.ensures.cell (N.Binary c.in-Binary.reach) _ N.PassedCells.any_hex)
       | inr is ↦ rw is
-          (c.pass_long-in-Binary.ensures.cell (Narrow c.in-Binary.reach) _ any_narrow)
+          (c.pass_long-in-Binary.ensures.cell (N.Narrow c.in-Binary.reach) _ N.PassedCells.any_narrow)
     ]
 
 pub returns-in-Wide-clause-cell : goal.returns-in-Wide-clause-cell
-returns-in-Wide-clause-cell g c = λ _. rw c.in-Wide.is (c.pass_long.ensures.cell (Wide c.in-Wide.reach) _ any_wide)
+returns-in-Wide-clause-cell g c = λ _. rw c.in-Wide.is (c.pass_long.ensures.cell (N.Wide c.in-Wide.reach) _ N.PassedCells.any_wide)
 
 pub returns-in-Binary-clause-succeeds : goal.returns-in-Binary-clause-succeeds
 returns-in-Binary-clause-succeeds g c = λ going value bytes more spelt.

@@ -1,20 +1,16 @@
-use Rattle.tds_rows.proofs.rows.Rows.put_cell.Goals as goal
-use Rattle.tds_rows.proofs.Words as N
-use Rattle.tds_rows.proofs.Words.{◌≡◌, ◌∙◌, ◌+◌, ◌≤◌, ap, sym}
-use Rattle.tds_rows.proofs.RunPuts.{put_whole}
+use Rattle.tds_rows.proofs as N
+use N.rows.Rows.put_cell.Goals as goal
+use N.{ap}
 
 pub returns-in-Ok : goal.returns-in-Ok
 returns-in-Ok g c =
     let old = c.args.self.now in
-    let n = c.in-Ok.cell.used in
-    let lies : n ≤ N.length (N.buffered old.payload.now) = search N.arith in
-    let at : c.consume.new.self.place ≡ old.payload.now.place + N.length _ =
-    omega (N.arith, ap (λ p. p.place) c.consume.ensures.rest, N.length-take n (N.buffered old.payload.now)) in
+    let at = N.RunPuts.consumed old.payload.now c.in-Ok.cell.used c.consume.ensures.rest (search N.arith) in
     record {
       leaves = search N.arith;
       cell =
           let alone = rw c.buffered-bytes.ensures at c.in-Ok.ensures.cell in
-          put_whole _ _ _ _ _ c.requires.in_row.sink
+          N.RunPuts.put_whole _ _ _ _ _ c.requires.in_row.sink
           (c.consume.ensures.between c.requires.in_row.payload.going) alone.1.whole c.consume.ensures.gives at c.put.ensures;
     }
 
@@ -25,6 +21,6 @@ returns-in-Err-Long g c =
     record {
       leaves = c.put_joined.ensures.leaves;
       cell =
-          let start = sym (ap (N.cell_start c.args.format.now.kind) (rw arm.field-0-is at arm.ensures.left)) in
+          let start = N.sym (ap (N.cell_start c.args.format.now.kind) (rw arm.field-0-is at arm.ensures.left)) in
           rw start at (rw (arm.content-is, arm.reach-is, c.is_last-last.ensures) at c.put_joined.ensures.field);
     }

@@ -1,27 +1,26 @@
-use Rattle.tds_rows.proofs.rows.Rows.put_gathered.Goals as goal
-use Rattle.tds_rows.proofs.Words.{sym, arith, take_all, passed}
-use Rattle.tds_rows.proofs.BufferedCells.{cell_reads, put_cell as cell_put}
-use Rattle.tds_rows.proofs.RowSteps.{at_once_stalls}
+use Rattle.tds_rows.proofs as N
+use N.rows.Rows.put_gathered.Goals as goal
+use N.{arith}
 use Rattle.tds_cells.proofs.RunSteps.{scalar_whole}
 
 pub returns-in_err-gather_scalar : goal.returns-in_err-gather_scalar
 returns-in_err-gather_scalar g c = record {
   leaves = search arith;
-  cell = rw c.requires.next.in_row.sink.writing (passed _ _ _ _ c.from_residual.ensures.1 (at_once_stalls _ _
+  cell = rw c.requires.next.in_row.sink.writing (N.passed _ _ _ _ c.from_residual.ensures.1 (N.RowSteps.at_once_stalls _ _
       _ _ c.requires.next.in_row.sink.ready.2 (c.in_err-gather_scalar.ensures.cell _)));
 }
 
 pub returns-in-Err-Refused : goal.returns-in-Err-Refused
 returns-in-Err-Refused g c = record {
   leaves = search arith;
-  cell = let x = rw (sym c.bytes-bytes.ensures.value) at (c.in_ok-gather_scalar.ensures.cell c.args.self.now.row_format.now.charset) in
+  cell = let x = rw (N.sym c.bytes-bytes.ensures.value) at (c.in_ok-gather_scalar.ensures.cell c.args.self.now.row_format.now.charset) in
       let left = rw c.in-Err-Refused.field-0-is at c.in-Err-Refused.ensures.left in
       rw (
         c.requires.next.in_row.sink.writing,
         c.refusal.ensures,
         c.in-Err-Refused.fault-is,
         c.place-place.ensures,
-      ) (at_once_stalls _ _ _ _ c.requires.next.in_row.sink.ready.2 (x.refused _ left.2 left.3));
+      ) (N.RowSteps.at_once_stalls _ _ _ _ c.requires.next.in_row.sink.ready.2 (x.refused _ left.2 left.3));
 }
 
 pub returns-in-Ok : goal.returns-in-Ok
@@ -31,10 +30,9 @@ returns-in-Ok g c = record {
       let charset = c.args.self.now.row_format.now.charset in
       let bytes = c.bytes-bytes.result.now in
       let alone = c.in-Ok.ensures.cell in
-      let x = rw (sym c.bytes-bytes.ensures.value) at (c.in_ok-gather_scalar.ensures.cell charset) in
+      let x = rw (N.sym c.bytes-bytes.ensures.value) at (c.in_ok-gather_scalar.ensures.cell charset) in
       let all =
-      take_all c.in-Ok.cell.used bytes (omega (arith, scalar_whole kind bytes c.requires.scalar)) in
-      let reads = cell_reads _ _ bytes
-      (rw all at (alone.1.at_once c.requires.scalar charset)) x.takes x.between x.place_is in
-      cell_put charset kind c.requires.next.in_row.sink reads c.put.ensures;
+      N.take_all c.in-Ok.cell.used bytes (omega (arith, scalar_whole kind bytes c.requires.scalar)) in
+      N.RunPuts.put_cell charset kind _ _ _ c.requires.next.in_row.sink x.between (rw all at (alone.1.at_once c.requires.scalar charset)) x.takes x.place_is
+      c.put.ensures;
 }

@@ -1,23 +1,18 @@
-use Rattle.tds_rows.proofs.rows.Rows.put_within.Goals as goal
-use Rattle.tds_rows.proofs.Words as N
-use Rattle.tds_rows.proofs.Words.{◌≡◌, ◌∙◌, ◌+◌, ◌-◌, ◌≤◌}
-use Rattle.tds_rows.proofs.BufferedCells.{kept_text}
-use Rattle.tds_rows.proofs.NextSteps.{all_waits}
+use Rattle.tds_rows.proofs as N
+use N.rows.Rows.put_within.Goals as goal
+use N.{◌≡◌, ◌∙◌, ◌+◌, ◌-◌, ◌≤◌}
 
 pub returns-clause-cells : goal.returns-clause-cells
 returns-clause-cells g c =
     let run = c.run-run.result in
     let bytes = N.buffered c.args.self.now.payload.now in
-    let at : c.consume.new.self.place ≡ c.args.self.now.payload.now.place + N.length (N.take run.used bytes) =
-    omega (N.arith, N.ap (λ p. p.place) c.consume.ensures.rest, N.length-take-le run.used bytes (search N.arith)) in
-    let puts = kept_text _ _ _ _ _ c.run-run.auto.to c.waiting-waiting.ensures _ c.commit.ensures.gives in
     record {
       bytes = N.take run.used bytes;
       text = N.take run.made c.run-run.new.to;
       wrote = (rw c.buffered-bytes.ensures at c.run-run.ensures.cells).writes;
       takes = c.consume.ensures.gives;
-      puts = puts;
-      place_is = at;
+      puts = N.RunPuts.kept_text _ _ _ _ _ c.run-run.auto.to c.waiting-waiting.ensures _ c.commit.ensures.gives;
+      place_is = N.RunPuts.consumed c.args.self.now.payload.now _ c.consume.ensures.rest (search N.arith);
     }
 
 pub returns-clause-ends : goal.returns-clause-ends
@@ -28,11 +23,11 @@ returns-clause-ends g c =
     let run = c.run-run.result in
     let written = c.run-run.new.to in
     let lent = c.spare-spare.result.now in
-    let puts = kept_text h j lent written _ c.run-run.auto.to c.waiting-waiting.ensures run.made c.commit.ensures.gives in
+    let puts = N.RunPuts.kept_text h j lent written _ c.run-run.auto.to c.waiting-waiting.ensures run.made c.commit.ensures.gives in
     let block : N.length lent + N.length h.waiting ≡ 4095 =
     omega (N.arith, c.requires.in_row.sink.ready.1 c.requires.in_row.sink.writing) in
     let text : N.length (N.take run.made written) ≡ run.made = omega (N.arith, N.length-take run.made written) in
-    let waits = all_waits h j _ puts (omega (N.arith, text)) in
+    let waits = N.NextSteps.all_waits h j _ puts (omega (N.arith, text)) in
     let room : N.length lent - run.made ≡ 4095 - N.length j.waiting = omega (N.arith, text, waits) in
     let rest = N.drop-drop run.used old.at _ ∙ N.ap N.buffered (N.sym c.consume.ensures.rest) in
     rw room at (rw rest at (rw c.buffered-bytes.ensures at c.run-run.ensures.ends))

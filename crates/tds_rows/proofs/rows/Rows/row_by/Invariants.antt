@@ -1,13 +1,13 @@
-use Rattle.tds_rows.proofs.rows.Rows.row_by.Given as goal
-use Rattle.tds_rows.proofs.Words.{◌+◌, ◌-◌, ◌*◌, ◌≤◌, Covers, KnowsSome}
-use Rattle.tds_rows.proofs.NextSteps.{Stands}
+use Rattle.tds_rows.proofs as N
+use N.rows.Rows.row_by.Given as goal
+use N.{◌+◌, ◌-◌, ◌*◌, ◌≤◌}
 
 abbrev pub invariant-loop-begun : goal.invariant-loop-begun
 invariant-loop-begun g l = record {
-  knows : KnowsSome l.self.row_format.now;
-  covers : Covers l.nulls l.self.row_format.now.count;
+  knows : N.KnowsSome l.self.row_format.now;
+  covers : N.Covers l.nulls l.self.row_format.now.count;
   few : l.fn.self.payload.now.place + l.begun ≤ l.self.payload.now.place;
-  reads : Stands g.R.Read.remaining g.W.Write.contents l.nulls l.fn.self l.self l.at l.begun;
+  reads : N.NextSteps.Stands g.R.Read.remaining g.W.Write.contents l.nulls l.fn.self l.self l.at l.begun;
 }
 
 abbrev pub decreases-loop-begun : goal.decreases-loop-begun

@@ -1,42 +1,41 @@
-use Rattle.tds_rows.proofs.cell.streamed.LongValue.read.Goals as goal
-use Rattle.tds_rows.proofs.Words.{[], ◌∙◌, MatchResult-weaker, append-nil, passed, refl}
-use Rattle.tds_rows.proofs.Numbers.{length_blames, read_stops, total_blames, total_none, total_start, total_stops}
-use Rattle.tds_rows.proofs.LongValues.{total_text, field_puts, next_breaks, next_path, null_puts, reading_stops}
-use Rattle.tds_rows.proofs.Paths.{path_stops}
+use Rattle.tds_rows.proofs as N
+use N.cell.streamed.LongValue.read.Goals as goal
+use N.{◌∙◌}
+use N.LongValues.{total_text, field_puts, next_breaks, next_path, null_puts}
 
 pub returns-in_err-total-in-Chunked-clause-field : goal.returns-in_err-total-in-Chunked-clause-field
 returns-in_err-total-in-Chunked-clause-field g c = λ conversion suits. rw c.in-Chunked.is (
-    passed _ _ _ _ c.from_residual.ensures.1 (reading_stops _ c.requires.sink.ready.2 c.requires.sink.writing
-    (total_stops _ (c.UNIT.ensures ∙ suits.unit_is) c.in_err-total-in-Chunked.ensures.length)))
+    N.passed _ _ _ _ c.from_residual.ensures.1 (N.LongValues.reading_stops _ c.requires.sink.ready.2 c.requires.sink.writing
+    (N.Numbers.total_stops _ (c.UNIT.ensures ∙ suits.unit_is) c.in_err-total-in-Chunked.ensures.length)))
 
 pub returns-in-None-clause-field : goal.returns-in-None-clause-field
 returns-in-None-clause-field g c = λ conversion suits. rw c.in-Chunked.is (
     null_puts _
-    (total_none conversion (c.UNIT.ensures ∙ suits.unit_is) c.in_ok-total-in-Chunked.ensures.length c.in-None.is) refl c.requires.sink
+    (N.Numbers.total_none conversion (c.UNIT.ensures ∙ suits.unit_is) c.in_ok-total-in-Chunked.ensures.length c.in-None.is) N.refl c.requires.sink
     c.put_null.ensures)
 
 pub returns-in_err-put_opening-in-Some-clause-field : goal.returns-in_err-put_opening-in-Some-clause-field
 returns-in_err-put_opening-in-Some-clause-field g c = λ conversion suits. rw c.in-Chunked.is (
     let sink = c.requires.sink in
-    let x = total_start conversion (c.UNIT.ensures ∙ suits.unit_is) c.in_ok-total-in-Chunked.ensures.length c.in-Some.is in
+    let x = N.Numbers.total_start conversion (c.UNIT.ensures ∙ suits.unit_is) c.in_ok-total-in-Chunked.ensures.length c.in-Some.is in
     let breaks = rw (c.QUOTED.ensures ∙ suits.quoted_is) at (c.in_err-put_opening-in-Some.ensures.gives sink.writing) in
-    passed _ _ _ _ c.from_residual-in_err-put_opening-in-Some.ensures.1
-    (next_breaks _ x _ [] (sink.ready.1 sink.writing) sink.ready.2 c.in_err-put_opening-in-Some.ensures.failed (append-nil _
+    N.passed _ _ _ _ c.from_residual-in_err-put_opening-in-Some.ensures.1
+    (next_breaks _ x _ N.[] (sink.ready.1 sink.writing) sink.ready.2 c.in_err-put_opening-in-Some.ensures.failed (N.append-nil _
     ∙ total_text _ c.args.self.now.last conversion c.in-Some.total) breaks))
 
 pub returns-in_ok-put_opening-in-Some-clause-field : goal.returns-in_ok-put_opening-in-Some-clause-field
 returns-in_ok-put_opening-in-Some-clause-field g c = λ conversion suits. rw c.in-Chunked.is (
-    let x = total_start conversion (c.UNIT.ensures ∙ suits.unit_is) c.in_ok-total-in-Chunked.ensures.length c.in-Some.is in
+    let x = N.Numbers.total_start conversion (c.UNIT.ensures ∙ suits.unit_is) c.in_ok-total-in-Chunked.ensures.length c.in-Some.is in
     let opened = rw (c.QUOTED.ensures ∙ suits.quoted_is) at c.in_ok-put_opening-in-Some.ensures.gives in
     let start = next_path _ x _ (total_text _ c.args.self.now.last conversion c.in-Some.total) opened in
-    MatchResult-weaker c.chunks.result (c.chunks.ensures.field conversion suits) (λ _ y. field_puts start y)
-    (λ stop y. path_stops start y))
+    N.MatchResult-weaker c.chunks.result (c.chunks.ensures.field conversion suits) (λ _ y. field_puts start y)
+    (λ stop y. N.Paths.path_stops start y))
 
 pub returns-in_err-total-in-Chunked-clause-blames : goal.returns-in_err-total-in-Chunked-clause-blames
 returns-in_err-total-in-Chunked-clause-blames g c =
-    passed _ _ _ _ c.from_residual.ensures.1 (read_stops _ _ c.in_err-total-in-Chunked.field-0.0
-    (length_blames g.R.Read.remaining c.args.self.now.payload.now c.requires.payload.going
-    (total_blames _ _) c.in_err-total-in-Chunked.ensures.length))
+    N.passed _ _ _ _ c.from_residual.ensures.1 (N.Numbers.read_stops _ _ c.in_err-total-in-Chunked.field-0.0
+    (N.Numbers.length_blames g.R.Read.remaining c.args.self.now.payload.now c.requires.payload.going
+    (N.Numbers.total_blames _ _) c.in_err-total-in-Chunked.ensures.length))
 
 pub returns-in-Short-clause-field : goal.returns-in-Short-clause-field
 returns-in-Short-clause-field g c = λ conversion suits. rw c.in-Short.is (c.short.ensures.field conversion suits)

@@ -1,20 +1,19 @@
-use Rattle.tds_rows.proofs.cell.streamed.LongValue.short.Goals as goal
-use Rattle.tds_rows.proofs.Words.{◌∙◌, ◌<◌, ◌++◌, [], arith, refl, sym, MatchResult-weaker, passed}
-use Rattle.tds_rows.proofs.Numbers.{length_blames, read_stops, short_none, short_start, short_stops}
+use Rattle.tds_rows.proofs as N
+use N.cell.streamed.LongValue.short.Goals as goal
+use N.{◌∙◌, ◌<◌, ◌++◌, [], sym}
+use N.Numbers.{short_start}
+use N.LongValues.{empty_puts, empty_stops, field_puts, next_breaks, next_path, null_puts, short_open, short_text, short_whole, short_holds}
 use Rattle.tds_cells.proofs.SeveralChunks.{none_begins, rest_none}
-use Rattle.tds_rows.proofs.LongValues.{empty_puts, empty_stops, field_puts, next_breaks, next_path, null_puts, reading_stops}
-use Rattle.tds_rows.proofs.LongValues.{short_end_stops, short_open, short_text, short_whole, filling_stops, short_holds}
-use Rattle.tds_rows.proofs.Paths.{path_stops}
 
 pub returns-in_err-n-clause-field : goal.returns-in_err-n-clause-field
 returns-in_err-n-clause-field g c = λ conversion suits.
-    passed _ _ _ _ c.from_residual.ensures.1 (reading_stops _ c.requires.sink.ready.2 c.requires.sink.writing
-    (short_stops _ (c.UNIT.ensures ∙ suits.unit_is) c.in_err-n.ensures.length))
+    N.passed _ _ _ _ c.from_residual.ensures.1 (N.LongValues.reading_stops _ c.requires.sink.ready.2 c.requires.sink.writing
+    (N.Numbers.short_stops _ (c.UNIT.ensures ∙ suits.unit_is) c.in_err-n.ensures.length))
 
 pub returns-in_default-clause-field : goal.returns-in_default-clause-field
 returns-in_default-clause-field g c = λ conversion suits.
     null_puts _
-    (short_none conversion (c.UNIT.ensures ∙ suits.unit_is) c.in_ok-n.ensures.length c.in_default.is) refl c.requires.sink
+    (N.Numbers.short_none conversion (c.UNIT.ensures ∙ suits.unit_is) c.in_ok-n.ensures.length c.in_default.is) N.refl c.requires.sink
     c.put_null.ensures
 
 pub returns-in_err-put_opening-clause-field : goal.returns-in_err-put_opening-clause-field
@@ -23,7 +22,7 @@ returns-in_err-put_opening-clause-field g c = λ conversion suits.
     let x = short_start _ (c.UNIT.ensures ∙ suits.unit_is) c.in_ok-n.ensures.length c.in-Some.is in
     let breaks = rw (c.QUOTED.ensures ∙ suits.quoted_is) at (c.in_err-put_opening.ensures.gives sink.writing) in
     let rest = short_text _ _ conversion c.in-Some.n in
-    passed _ _ _ _ c.from_residual-in_err-put_opening.ensures.1
+    N.passed _ _ _ _ c.from_residual-in_err-put_opening.ensures.1
     (next_breaks _ x _ rest.0 (sink.ready.1 sink.writing) sink.ready.2 c.in_err-put_opening.ensures.failed rest.1 breaks)
 
 pub returns-then-n-eq0-clause-field : goal.returns-then-n-eq0-clause-field
@@ -32,32 +31,32 @@ returns-then-n-eq0-clause-field g c = λ conversion suits.
     let x = short_start _ (c.UNIT.ensures ∙ suits.unit_is) c.in_ok-n.ensures.length c.in-Some.is in
     let opened = rw (c.QUOTED.ensures ∙ suits.quoted_is) at c.in_ok-put_opening.ensures.gives in
     let ended = rw suits.quoted_is at (c.put_end.ensures.end conversion [] suits (c.requires.withheld_none ∙ sym (rest_none _)) (none_begins _)) in
-    rw c.put_end.ensures.payload (MatchResult-weaker c.put_end.result ended (λ _ y. empty_puts _ _ _ _ x c.if-n-eq0.true opened y.1)
+    rw c.put_end.ensures.payload (N.MatchResult-weaker c.put_end.result ended (λ _ y. empty_puts _ _ _ _ x c.if-n-eq0.true opened y.1)
     (λ stop y. empty_stops _ _ _ x c.if-n-eq0.true opened (sink.ready.1 sink.writing) sink.ready.2 y))
 
 pub returns-in_err-push_data-clause-field : goal.returns-in_err-push_data-clause-field
 returns-in_err-push_data-clause-field g c = λ conversion suits.
     let x = short_start _ (c.UNIT.ensures ∙ suits.unit_is) c.in_ok-n.ensures.length c.in-Some.is in
     let opened = rw (c.QUOTED.ensures ∙ suits.quoted_is) at c.in_ok-put_opening.ensures.gives in
-    let some : 0 < c.in-Some.n = search arith in
+    let some : 0 < c.in-Some.n = search N.arith in
     let stops = c.in_err-push_data.ensures.data conversion [] suits (c.requires.withheld_none ∙ sym (rest_none _)) (none_begins _) in
-    passed _ _ _ _ c.from_residual-in_err-push_data.ensures.1
-    (path_stops (next_path _ x _ (short_open _ _ conversion some) opened)
-    (filling_stops _ (short_holds _ conversion) stops))
+    N.passed _ _ _ _ c.from_residual-in_err-push_data.ensures.1
+    (N.Paths.path_stops (next_path _ x _ (short_open _ _ conversion some) opened)
+    (N.LongValues.filling_stops _ (short_holds _ conversion) stops))
 
 pub returns-clause-field : goal.returns-clause-field
 returns-clause-field g c = λ conversion suits.
     let x = short_start _ (c.UNIT.ensures ∙ suits.unit_is) c.in_ok-n.ensures.length c.in-Some.is in
     let opened = rw (c.QUOTED.ensures ∙ suits.quoted_is) at c.in_ok-put_opening.ensures.gives in
-    let some : 0 < c.in-Some.n = search arith in
+    let some : 0 < c.in-Some.n = search N.arith in
     let start = next_path _ x _ (short_open _ _ conversion some) opened in
     let y = c.in_ok-push_data.ensures.data conversion [] suits (c.requires.withheld_none ∙ sym (rest_none _)) (none_begins _) in
     let all = y.front ++ y.takes.piece in
     let same = c.in_ok-push_data.ensures.leaves.same in
     let ended = rw (same.3, same.4, c.place-last_byte.ensures, suits.quoted_is) at
     (c.put_end-2.ensures.end conversion all suits y.takes.kept_is y.takes.begun) in
-    rw c.put_end-2.ensures.payload (MatchResult-weaker _ ended (λ _ z. field_puts start (short_whole _ _ _ y z.0 z.1))
-    (λ stop z. path_stops start (short_end_stops _ _ _ y z)))
+    rw c.put_end-2.ensures.payload (N.MatchResult-weaker _ ended (λ _ z. field_puts start (short_whole _ _ _ y z.0 z.1))
+    (λ stop z. N.Paths.path_stops start (N.LongValues.short_end_stops _ _ _ y z)))
 
 pub returns-in_err-n-clause-blames : goal.returns-in_err-n-clause-blames
-returns-in_err-n-clause-blames g c = grind (arith, read_stops, length_blames)
+returns-in_err-n-clause-blames g c = grind (N.arith, N.Numbers.read_stops, N.Numbers.length_blames)
