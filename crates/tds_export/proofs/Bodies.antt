@@ -1,12 +1,9 @@
 -- Tokens with a Length and a body, as they are read.
 use Rattle.tds_export.proofs as N
-use N.{AnError, List, Report, Some, Space, [], ap, arith, empty, first_error, in_length, length, notice_of, refl, text, ℕ, ◌++◌, ◌+◌, ◌-◌, ◌<◌, ◌∙◌, ◌∷◌}
-use N.{◌≡◌, ◌≤◌, Err, Kind, Ok, ReadsReturn, PayloadView, Stop, Takes, if◌then◌else◌, ◌*◌, Bodied, Token, between, false, inl, inr, is_notice, reads_one}
-use N.{response, true, Charset, Ends}
+use N.{List, Some, Space, [], arith, first_error, in_length, length, refl, text, ℕ, ◌++◌, ◌+◌, ◌-◌, ◌<◌, ◌∙◌, ◌∷◌, ◌≡◌, ◌≤◌, Err, Ok, ReadsReturn, PayloadView}
+use N.{Stop, Takes, if◌then◌else◌, ◌*◌, Bodied, Token, between, response, true, Ends}
 use N.TokenSteps.{OpenTexts, bare_reads, quietly, stops_quietly, ReadsQuiet, StopsQuiet}
-use N.TokenLaws.{first_next, first_stays, no_errors, tracked, tracks_error, bare_body, tracks_body}
-use N.ResponseLaws.{Agrees, info_is_read, return_name_is_read, value_agrees, read_inside, stop_inside, part_cut, fill_cut, return_agrees, body_free}
-use N.ResponseLaws.{body_is_read}
+use N.ResponseLaws.{Agrees, info_is_read, value_agrees, read_inside, stop_inside, part_cut, fill_cut, return_agrees, body_free, body_is_read}
 
 -- a text as far as it fits stays within the room
 pub within_room : {s : Space} (text : List ℕ) → s.bytes ≡ [] → s.peak ≤ s.room → (N.appended s (N.whole_within (s.room - length s.bytes) text)).peak ≤ s.room
@@ -26,7 +23,7 @@ module _ {s t : N.ReturnPart} {a b c : PayloadView} {place middle : ℕ} (x : Re
 -- the next element was read
 return_read : {s t : N.ReturnPart} {a b : PayloadView} {place place' n : ℕ} (element : List ℕ) → 0 < n → N.return_size s ≡ n → N.return_fault s element ≡ N.None
     → N.return_add s element ≡ t → length element ≡ n → Takes a b element n → place' ≡ place + n → ReadsReturn s t a b place place'
-return_read {s} {t} {a} {b} element some size free to whole takes at = record { reads = grind (arith, reads_one); place_is = rw whole at }
+return_read {s} {t} {a} {b} element some size free to whole takes at = record { reads = grind (arith, N.reads_one); place_is = rw whole at }
 
 -- ---- the name
 
@@ -53,7 +50,7 @@ name_cut units {n} is fewer ends stop_is =
 pub name_read : (units : ℕ) {n place place' : ℕ} {a b : PayloadView} {name : List ℕ} → n ≡ 2 * units → length name ≡ n → Takes a b name n
     → place' ≡ place + n → ReadsReturn (N.with_return_units units) (N.ReturnHead name) a b place place'
 name_read units {name} is len takes at = record {
-  reads = record { bytes = name; spelt = return_name_is_read _ _ (cc); takes = rw len takes };
+  reads = record { bytes = name; spelt = N.ResponseLaws.return_name_is_read _ _ (cc); takes = rw len takes };
   place_is = rw len at;
 }
 
@@ -76,7 +73,8 @@ type_agrees : {name : List ℕ} (p : N.TypePart) → 0 < N.returned_type.size p 
 type_agrees p h = grind (arith, byte_read)
 
 -- whatever the answer is
-pub type_taken : (r : N.Result Kind Stop) (name head : List ℕ) (a b c : PayloadView) (place : ℕ) {middle : ℕ} (place' : ℕ) → length head ≡ 8 → Takes a b head 8
+pub type_taken : (r : N.Result N.Kind Stop) (name head : List ℕ) (a b c : PayloadView) (place : ℕ) {middle : ℕ} (place' : ℕ) → length head ≡ 8
+    → Takes a b head 8
     → middle ≡ place + 8 → N.IfOk r (λ kind. N.ReadsType (N.slice_index head 7) b c middle place' kind)
     → N.MatchResult r (λ kind. N.Reads N.returned_type N.TypeHead a c (N.KnownType kind)) (λ stop. N.StopsType a c (middle - 8) stop)
     → N.MatchResult r (λ kind. ReadsReturn (N.ReturnHead name) (N.before_value name kind) a c place place')
@@ -92,7 +90,7 @@ type_taken (Err stop) name head a b c place place' eight takes at x y =
 -- ---- the value
 
 -- the value was passed over, or that stopped
-pub value_passed : {U : Type 0} (r : N.Result U Stop) (name : List ℕ) (kind : Kind) {a b : PayloadView} (c : PayloadView) {place middle : ℕ} (place' : ℕ)
+pub value_passed : {U : Type 0} (r : N.Result U Stop) (name : List ℕ) (kind : N.Kind) {a b : PayloadView} (c : PayloadView) {place middle : ℕ} (place' : ℕ)
     → ReadsReturn N.ReturnOrdinal (N.before_value name kind) a b place middle
     → N.MatchResult r (λ _. N.PassesCell (N.cell_start kind (N.shape N.return_charset kind)) b c middle place')
     (λ stop. N.StopsPassing (N.cell_start kind (N.shape N.return_charset kind)) b c middle stop)
@@ -118,18 +116,18 @@ pub record LengthRead (element : List ℕ) (n : ℕ) (a b : PayloadView) (place 
   pub takes : Takes a b element (length element)
   pub at : middle ≡ place + length element
 
-module _ (charset : Charset) (room : ℕ) {n place middle : ℕ} {tokens : List Token} {which : Bodied} {element : List ℕ} {a b c : PayloadView}
-    (l : LengthRead element n a b place middle) (long : is_notice which ≡ true → 14 ≤ n) where
+module _ (charset : N.Charset) (room : ℕ) {n place middle : ℕ} {tokens : List Token} {which : Bodied} {element : List ℕ} {a b c : PayloadView}
+    (l : LengthRead element n a b place middle) (long : N.is_notice which ≡ true → 14 ≤ n) where
   -- what stops the reading of the body
   after_length : {stop : Stop} → 0 < n → N.StopsReading (response charset room) (in_body which tokens n) b c middle (in_body which tokens n) stop
       → N.StopsReading (response charset room) (in_length which tokens) a c place (in_body which tokens n) stop
   after_length {stop} some stops =
       let to : (response charset room).add (in_length which tokens) element ≡ in_body which tokens n = grind (arith, N.choose_false, N.ne_eqb) in
-      N.stops_after _ _ _ a b c _ _ _ (reads_one _ _ a b _ _ (grind arith)
+      N.stops_after _ _ _ a b c _ _ _ (N.reads_one _ _ a b _ _ (grind arith)
       l.takes to) (rw l.at at stops)
 
   -- the body was read
-  abbrev pub body_reads : (body : List ℕ) → length body ≡ n → Takes b c body n → (is_notice which ≡ true → N.holds_notice body ≡ true)
+  abbrev pub body_reads : (body : List ℕ) → length body ≡ n → Takes b c body n → (N.is_notice which ≡ true → N.holds_notice body ≡ true)
       → N.Reads (response charset room) (in_length which tokens) a c (N.with_token tokens (N.bodied which body))
   body_reads body len takes holds = record {
     bytes = element ++ body;
@@ -137,19 +135,19 @@ module _ (charset : Charset) (room : ℕ) {n place middle : ℕ} {tokens : List 
     takes = N.takes_both a b c _ _ l.takes (rw len takes);
   }
 
-module _ (charset : Charset) (room : ℕ) {tokens : List Token} {which : Bodied} (notice : is_notice which ≡ true) where
+module _ (charset : N.Charset) (room : ℕ) {tokens : List Token} {which : Bodied} (notice : N.is_notice which ≡ true) where
   -- the Length is cut
   pub length_cut : {to : List ℕ} {a b : PayloadView} {place : ℕ} {stop : Stop} → length to ≡ 2
       → ((k : ℕ) × (own : Stop) × (k < length to) × Ends a b (N.take k to) own × (stop ≡ N.began_at place own))
       → N.StopsInNotice charset room tokens which a b place stop
-  length_cut two part = record { at = in_length which tokens; stops = fill_cut refl refl two part; in_body = inl refl }
+  length_cut two part = record { at = in_length which tokens; stops = fill_cut refl refl two part; in_body = N.inl refl }
 
   module _ {element : List ℕ} {n place middle : ℕ} {a b : PayloadView} (l : LengthRead element n a b place middle) where
     -- the Length is too short
     pub length_refused : n < 14 → N.IsBetween b → N.StopsInNotice charset room tokens which a b place (record { fault = N.BadNotice; place = N.Payload place })
     length_refused short between =
         let first : N.part_fault room tokens (N.TokenLength which) element ≡ Some N.BadNotice = grind (arith, N.test_lt) in
-        record { at = in_length which tokens; stops = N.refused_at_once _ _ a b _ _ _ (omega arith) l.two first l.takes between; in_body = inl refl }
+        record { at = in_length which tokens; stops = N.refused_at_once _ _ a b _ _ _ (omega arith) l.two first l.takes between; in_body = N.inl refl }
 
     -- the body was read
     pub body_passed : {c : PayloadView} → 14 ≤ n → (body : List ℕ) {place' : ℕ} → length body ≡ n → Takes b c body n → place' ≡ middle + n
@@ -162,18 +160,18 @@ module _ (charset : Charset) (room : ℕ) {tokens : List Token} {which : Bodied}
     module _ {c : PayloadView} {before after : Space} (long : 14 ≤ n) where
       -- the body is cut
       pub body_cut : {stop : Stop} → N.EndsInto b c before after middle n stop → N.StopsInNotice charset room tokens which a c place stop
-      body_cut cut = record { at = in_body which tokens n; stops = after_length _ _ l (λ e. long) (omega arith) (grind arith); in_body = inr (n, refl) }
+      body_cut cut = record { at = in_body which tokens n; stops = after_length _ _ l (λ e. long) (omega arith) (grind arith); in_body = N.inr (n, refl) }
 
       module _ (t : N.TakesInto b c before after n) where
         -- the inner lengths pass the body
-        pub body_refused : N.holds_notice t.element ≡ false
+        pub body_refused : N.holds_notice t.element ≡ N.false
             → N.StopsInNotice charset room tokens which a c place (record { fault = N.BadNotice; place = N.Payload middle })
         body_refused passes =
             let first : N.part_fault room tokens (N.TokenBody which n) t.element ≡ Some N.BadNotice = grind arith in
             record {
               at = in_body which tokens n;
               stops = after_length _ _ l (λ e. long) (omega arith) (N.refused_into t (omega arith) refl first);
-              in_body = inr (n, refl);
+              in_body = N.inr (n, refl);
             }
 
         -- the body was read into an area
@@ -183,7 +181,7 @@ module _ (charset : Charset) (room : ℕ) {tokens : List Token} {which : Bodied}
 
 -- ---- what a run makes of them
 
-module _ (charset : Charset) {tokens : List Token} {s : N.Progress} {u : N.View} {b : PayloadView} (begun : OpenTexts tokens s u) where
+module _ (charset : N.Charset) {tokens : List Token} {s : N.Progress} {u : N.View} {b : PayloadView} (begun : OpenTexts tokens s u) where
   -- a notice is cut or refused
   pub notice_stops : {which : Bodied} {stop : Stop} → N.StopsInNotice charset u.area.room tokens which u.seen b u.place stop
       → StopsQuiet charset (in_length which tokens) u b stop
@@ -192,27 +190,27 @@ module _ (charset : Charset) {tokens : List Token} {s : N.Progress} {u : N.View}
   -- an INFO was read
   pub info_reads : {place : ℕ} {body : List ℕ} → N.ReadsNotice charset u.area.room tokens N.AnInfo u.seen b u.place place body
       → ReadsQuiet charset (in_length N.AnInfo tokens) tokens u b place (record s { report = record s.report { infos = s.report.infos + 1 } })
-  info_reads x = quietly begun refl (bare_reads begun _ x.reads x.place_is refl refl (grind (arith, tracked)))
+  info_reads x = quietly begun refl (bare_reads begun _ x.reads x.place_is refl refl (grind (arith, N.TokenLaws.tracked)))
 
-  module _ {place : ℕ} {body : List ℕ} (x : N.ReadsNotice charset u.area.room tokens AnError u.seen b u.place place body) where
-    abbrev error_reads : {first : N.Option N.ServerError} → first ≡ N.option_map N.server_error (first_error (tokens ++ N.Error (notice_of body) ∷ []))
-        → N.ReadsTokens (response charset u.area.room) (in_length AnError tokens) tokens u.seen b u.place place u.held u.held
+  module _ {place : ℕ} {body : List ℕ} (x : N.ReadsNotice charset u.area.room tokens N.AnError u.seen b u.place place body) where
+    abbrev error_reads : {first : N.Option N.ServerError} → first ≡ N.option_map N.server_error (first_error (tokens ++ N.Error (N.notice_of body) ∷ []))
+        → N.ReadsTokens (response charset u.area.room) (in_length N.AnError tokens) tokens u.seen b u.place place u.held u.held
         (record s { report = record s.report { errors = s.report.errors + 1; first_error = first } }) u.area
-    error_reads is = bare_reads begun (N.Error (notice_of body)) x.reads x.place_is refl refl (tracks_error begun.tracks _ is)
+    error_reads is = bare_reads begun (N.Error (N.notice_of body)) x.reads x.place_is refl refl (N.TokenLaws.tracks_error begun.tracks _ is)
 
     -- the first ERROR was read, and its message noted
     pub first_error_reads : (cleared : Space) {after : Space} → s.report.errors ≡ 0 → cleared.bytes ≡ [] → cleared.room ≡ 512
-        → after ≡ N.appended cleared (N.whole_within (cleared.room - length cleared.bytes) (N.characters (notice_of body).message))
-        → N.ReadsNext charset (in_length AnError tokens) tokens u (record u { seen = b; place = place; notice = after })
-        (record s { report = record s.report { errors = s.report.errors + 1; first_error = Some (N.server_error (notice_of body)) } })
+        → after ≡ N.appended cleared (N.whole_within (cleared.room - length cleared.bytes) (N.characters (N.notice_of body).message))
+        → N.ReadsNext charset (in_length N.AnError tokens) tokens u (record u { seen = b; place = place; notice = after })
+        (record s { report = record s.report { errors = s.report.errors + 1; first_error = Some (N.server_error (N.notice_of body)) } })
     first_error_reads cleared {after} none no_bytes room_is put =
-        let first = first_next tokens (notice_of body) (grind (arith, no_errors)) in
+        let first = N.TokenLaws.first_next tokens (N.notice_of body) (grind (arith, N.TokenLaws.no_errors)) in
         (error_reads (cc), cc)
 
     -- a later ERROR was read
     pub later_error_reads : 0 < s.report.errors
-        → ReadsQuiet charset (in_length AnError tokens) tokens u b place (record s { report = record s.report { errors = s.report.errors + 1 } })
-    later_error_reads = grind (arith, first_stays, error_reads)
+        → ReadsQuiet charset (in_length N.AnError tokens) tokens u b place (record s { report = record s.report { errors = s.report.errors + 1 } })
+    later_error_reads = grind (arith, N.TokenLaws.first_stays, error_reads)
 
   -- a return value stopped the call
   pub return_stops : {stop : Stop} → N.StopsReturn N.ReturnOrdinal u.seen b u.place stop → StopsQuiet charset (N.in_return tokens) u b stop
@@ -222,17 +220,17 @@ module _ (charset : Charset) {tokens : List Token} {s : N.Progress} {u : N.View}
   pub return_reads : {place : ℕ} → N.ReadsValue u.seen b u.place place
       → ReadsQuiet charset (N.in_return tokens) tokens u b place (record s { report = record s.report { return_values = s.report.return_values + 1 } })
   return_reads x =
-      quietly begun refl (bare_reads begun _ (read_inside (return_agrees _ _ _) x.steps.reads) x.steps.place_is refl refl (grind (arith, tracked)))
+      quietly begun refl (bare_reads begun _ (read_inside (return_agrees _ _ _) x.steps.reads) x.steps.place_is refl refl (grind (arith, N.TokenLaws.tracked)))
 
-  module _ {n middle : ℕ} {which : Bodied} {element : List ℕ} {c : PayloadView} (quiet : is_notice which ≡ false)
+  module _ {n middle : ℕ} {which : Bodied} {element : List ℕ} {c : PayloadView} (quiet : N.is_notice which ≡ N.false)
       (l : LengthRead element n u.seen b u.place middle) where
     -- a body of which nothing is kept was read
     pub quiet_reads : {place : ℕ} (body : List ℕ) → length body ≡ n → Takes b c body n → place ≡ middle + n
         → ReadsQuiet charset (in_length which tokens) tokens u c place s
     quiet_reads body len takes at =
         quietly begun refl (bare_reads begun _ (body_reads _ _ l (grind arith) _ len takes (grind arith)) (grind (arith, N.length-append)) refl
-        (bare_body _ _)
-        (tracks_body begun.tracks _ _ quiet))
+        (N.TokenLaws.bare_body _ _)
+        (N.TokenLaws.tracks_body begun.tracks _ _ quiet))
 
     -- it was cut
     pub quiet_stops : {own stop : Stop} {part : List ℕ} → length part < n → Ends b c part own → stop ≡ N.began_at middle own

@@ -1,10 +1,10 @@
 -- What completes a cell and a row is read as their rest.
 use Rattle.tds_export.proofs as N
-use N.{Bool, Cell, CellPart, ChunkData, ChunkLength, Column, Conversion, Decimal, Kind, List, None, Null, Option, Result, ShortData, Some, Spelt, Time}
-use N.{WholeCell, WholeRow, Windows1252, [], arith, before, bit, cell, choose, false, is_valid, le_true, length, marked, refl, row, suc, sym}
-use N.{true, unit, zero, zeros, ℕ, ⊤, ◌%◌, ◌&&◌, ◌++◌, ◌+◌, ◌<◌, ◌∙◌, ◌∷◌, ◌≡◌, ◌≤◌}
+use N.{Bool, Cell, CellPart, ChunkData, ChunkLength, Column, Conversion, Kind, List, None, Null, Option, ShortData, Some, Spelt, Time, WholeCell, WholeRow}
+use N.{Windows1252, [], arith, before, bit, cell, false, is_valid, length, marked, refl, row, suc, true, unit, zero, zeros, ℕ, ⊤, ◌%◌, ◌&&◌, ◌++◌, ◌+◌, ◌<◌}
+use N.{◌∙◌, ◌∷◌, ◌≡◌, ◌≤◌}
 use N.ResponseLaws.{spelt_both, spelt_one}
-use N.SomeBytes.{exactly, little_below}
+use N.SomeBytes.{exactly}
 
 -- the conversions that Windows-1252 names: none judges data before its end
 abbrev pub is_plain : Conversion → Bool
@@ -32,10 +32,10 @@ below_eight : (P : ℕ → Bool) → (P 0 && P 1 && P 2 && P 3 && P 4 && P 5 && 
 below_eight = grind arith
 
 -- a value was read
-abbrev IsRead : Result N.ScalarValue N.ValueFault → Type 0
+abbrev IsRead : N.Result N.ScalarValue N.ValueFault → Type 0
 IsRead r = (v : N.ScalarValue) × (r ≡ N.Ok v)
 
-value_there : (r : Result N.ScalarValue N.ValueFault) → N.is_ok r ≡ true → IsRead r
+value_there : (r : N.Result N.ScalarValue N.ValueFault) → N.is_ok r ≡ true → IsRead r
 value_there r h = grind arith
 
 -- whether so many zeros are a value of a kind
@@ -47,11 +47,11 @@ abbrev ZerosAre : Kind → ℕ → Type 0
 ZerosAre kind n = are_read kind n ≡ true
 
 zeros_are_a_value : (kind : Kind) (n : ℕ) → is_valid kind ≡ true → N.is_scalar kind ≡ true → N.is_length_allowed kind n ≡ true → ZerosAre kind n
-zeros_are_a_value (Time sc) n v s h = exactly (ZerosAre (Time sc)) n _ h (below_eight (λ sc. are_read (Time sc) (N.time_length sc)) refl _ (le_true _ 7 v))
+zeros_are_a_value (Time sc) n v s h = exactly (ZerosAre (Time sc)) n _ h (below_eight (λ sc. are_read (Time sc) (N.time_length sc)) refl _ (N.le_true _ 7 v))
 zeros_are_a_value (N.DateTime2 sc) n v s h =
-    exactly (ZerosAre (N.DateTime2 sc)) n _ h (below_eight (λ sc. are_read (N.DateTime2 sc) (N.time_length sc + 3)) refl _ (le_true _ 7 v))
+    exactly (ZerosAre (N.DateTime2 sc)) n _ h (below_eight (λ sc. are_read (N.DateTime2 sc) (N.time_length sc + 3)) refl _ (N.le_true _ 7 v))
 zeros_are_a_value (N.DateTimeOffset sc) n v s h =
-    exactly (ZerosAre (N.DateTimeOffset sc)) n _ h (below_eight (λ sc. are_read (N.DateTimeOffset sc) (N.time_length sc + 5)) refl _ (le_true _ 7 v))
+    exactly (ZerosAre (N.DateTimeOffset sc)) n _ h (below_eight (λ sc. are_read (N.DateTimeOffset sc) (N.time_length sc + 5)) refl _ (N.le_true _ 7 v))
 zeros_are_a_value kind n v s h = grind (arith, exactly)
 
 zeros_next : (n : ℕ) → 0 ∷ zeros (n + 1) ≡ zeros (suc n + 1)
@@ -123,10 +123,10 @@ module _ (column : ℕ) where
   cell_keeps (N.ScalarBytes kind m) are h n = grind arith
   cell_keeps (N.ScalarLength kind) are (valid, scalar) n = grind arith
   cell_keeps (N.ShortLength c) are plain n = grind arith
-  cell_keeps (ShortData c left content) are (plain, even) n = grind (arith, choose, N.eq_false, N.length-append)
-  cell_keeps (N.Total c) are plain n = grind (arith, choose, N.eq_false, little_below, N.eq_true, le_true, N.or_cases, N.unless_none)
+  cell_keeps (ShortData c left content) are (plain, even) n = grind (arith, N.choose, N.eq_false, N.length-append)
+  cell_keeps (N.Total c) are plain n = grind (arith, N.choose, N.eq_false, N.SomeBytes.little_below, N.eq_true, N.le_true, N.or_cases, N.unless_none)
   cell_keeps (ChunkLength c total content) are (plain, h) n = grind arith
-  cell_keeps (ChunkData c total left content) are (plain, h) n = grind (arith, choose, N.eq_false, N.eq_true, N.length-append)
+  cell_keeps (ChunkData c total left content) are (plain, h) n = grind (arith, N.choose, N.eq_false, N.eq_true, N.length-append)
   cell_keeps (WholeCell x) are h n = tt
 
 -- the kinds of the columns are valid

@@ -1,16 +1,12 @@
 -- What completes a response is read as its rest, and is bytes.
 use Rattle.tds_export.proofs as N
-use N.{AreBytes, Column, Done, InRow, List, None, Open, Part, Spelt, Token, Windows1252, [], arith, begun, described_after, false, length, passed, refl}
-use N.{response, suc, true, zero, zeros, ℕ, ⊤, ◌++◌, ◌<◌, ◌∙◌, ◌∷◌, ◌≡◌, ◌≤◌}
-use N.SomeBytes.{AreBytes-append, AreBytes-replicate, bytes_induct}
-use N.CompletedDescriptions.{DescribedReached, IsOpenDescription, described_ends, described_keeps}
+use N.{AreBytes, Done, InRow, List, None, Open, Spelt, Token, Windows1252, [], arith, begun, false, length, passed, refl, response, suc, true, zero, zeros, ℕ}
+use N.{⊤, ◌++◌, ◌<◌, ◌∙◌, ◌∷◌, ◌≡◌, ◌≤◌}
+use N.SomeBytes.{AreBytes-append}
 use N.CompletedReturns.{ReturnReached, return_ends, return_keeps}
 use N.CompletedCells.{RowReached, AreValid, cell_keeps, marked_valid, next_reached, row_ends}
-use N.LeastTypes.{least_type}
-use N.ResponseMeaning.{response_is_spelt}
-use N.ResponseLaws.{spelt_both, spelt_one, body_free, body_is_read, described_after-append, description_agrees, row_agrees}
-use N.ResponseLaws.{return_agrees, part_at, spelt_inside}
-use N.TokenLaws.{bare, bare_body, bare_fixed, is_final-snoc}
+use N.ResponseLaws.{spelt_both, spelt_one, body_free, body_is_read, described_after-append, row_agrees, return_agrees, part_at, spelt_inside}
+use N.TokenLaws.{bare, bare_body, bare_fixed}
 
 -- a row, and a return value, that isn't whole
 abbrev pub IsOpenRow : N.RowPart → Type 0
@@ -23,14 +19,14 @@ IsOpenReturn part = ⊤
 
 -- what is known of the token that bytes led into
 abbrev pub OpenReached : ℕ → Open → Type 0
-OpenReached room (N.Describing d) = IsOpenDescription d × DescribedReached room d
+OpenReached room (N.Describing d) = N.CompletedDescriptions.IsOpenDescription d × N.CompletedDescriptions.DescribedReached room d
 OpenReached room (InRow part) = IsOpenRow part × RowReached part
 OpenReached room (N.InReturn part) = IsOpenReturn part × ReturnReached part
 OpenReached room (N.TokenBody b n) = (0 < n) × (N.is_notice b ≡ true → 14 ≤ n)
 OpenReached room at = ⊤
 
 AreBytes-zeros : (n : ℕ) → AreBytes (zeros n)
-AreBytes-zeros = grind (arith, AreBytes-replicate)
+AreBytes-zeros = grind (arith, N.SomeBytes.AreBytes-replicate)
 
 AreBytes-ints : (n : ℕ) → AreBytes (N.int_columns n)
 AreBytes-ints zero = tt
@@ -43,22 +39,22 @@ AreBytes-zero_chunks (suc n) = grind (arith, (AreBytes-zero_chunks n))
 AreBytes-cell : (p : N.CellPart) → AreBytes (N.rest_of_cell p)
 AreBytes-cell p = grind (arith, AreBytes-append, AreBytes-zero_chunks, AreBytes-zeros)
 
-AreBytes-cells : (ks : List (Column × N.Bool)) → AreBytes (N.rest_of_cells ks)
+AreBytes-cells : (ks : List (N.Column × N.Bool)) → AreBytes (N.rest_of_cells ks)
 AreBytes-cells [] = tt
 AreBytes-cells ((k, true) ∷ ks) = AreBytes-cells ks
 AreBytes-cells ((k, false) ∷ ks) = grind (arith, (AreBytes-cells ks))
 
 AreBytes-return : (p : N.ReturnPart) → ReturnReached p → AreBytes (N.rest_of_return p)
-AreBytes-return = search (arith, AreBytes-append, least_type, AreBytes-zeros, AreBytes-cell)
+AreBytes-return = search (arith, AreBytes-append, N.LeastTypes.least_type, AreBytes-zeros, AreBytes-cell)
 
 -- the columns that are described are some, of valid kinds
-abbrev CurrentReached : N.Option (List Column) → Type 0
+abbrev CurrentReached : N.Option (List N.Column) → Type 0
 CurrentReached None = ⊤
 CurrentReached (N.Some columns) = (0 < length columns) × AreValid columns
 
 -- what is known of a part of a response that bytes led to
-abbrev PartReached : ℕ → Part → Type 0
-PartReached room p = CurrentReached (described_after None p.tokens) × OpenReached room p.at
+abbrev PartReached : ℕ → N.Part → Type 0
+PartReached room p = CurrentReached (N.described_after None p.tokens) × OpenReached room p.at
 
 -- a notice of zero bytes holds its inner lengths
 zeros_hold : (n : ℕ) → 14 ≤ n → N.holds_notice (zeros n) ≡ true
@@ -66,14 +62,25 @@ zeros_hold = grind (arith, N.common_steps, N.test_le, N.test_lt)
 
 module _ (room : ℕ) where
   -- Each element keeps what is known.
-  open_keeps : {tokens : List Token} (at : Open) {e : List ℕ} → AreBytes e → CurrentReached (described_after None tokens) → OpenReached room at
+  open_keeps : {tokens : List Token} (at : Open) {e : List ℕ} → AreBytes e → CurrentReached (N.described_after None tokens) → OpenReached room at
       → N.IsNext (response Windows1252 room) (part_at tokens at) e → PartReached room (N.part_add Windows1252 tokens at e)
   open_keeps (N.TokenLength b) are h o n = grind (arith, bare, bare_body, described_after-append, N.choose, N.eq_false, N.nat_tests)
   open_keeps at are h o n =
-      grind (arith, marked_valid, next_reached, described_after-append, described_keeps, cell_keeps, bare, return_keeps, bare_body, bare_fixed)
+      grind (
+        arith,
+        marked_valid,
+        next_reached,
+        described_after-append,
+        N.CompletedDescriptions.described_keeps,
+        cell_keeps,
+        bare,
+        return_keeps,
+        bare_body,
+        bare_fixed,
+      )
 
-  part_reached : {bytes : List ℕ} {p : Part} → AreBytes bytes → Spelt (response Windows1252 room) N.response_start bytes p → PartReached room p
-  part_reached {p} are h = bytes_induct (λ q b. PartReached room q) (grind (arith, open_keeps)) _ (tt, tt) _ p are h
+  part_reached : {bytes : List ℕ} {p : N.Part} → AreBytes bytes → Spelt (response Windows1252 room) N.response_start bytes p → PartReached room p
+  part_reached {p} are h = N.SomeBytes.bytes_induct (λ q b. PartReached room q) (grind (arith, open_keeps)) _ (tt, tt) _ p are h
 
   -- the rest of a token, up to its end
   abbrev Ends : List Token → Open → List ℕ → Type 0
@@ -83,8 +90,8 @@ module _ (room : ℕ) where
   token_ends : 10 ≤ room → (tokens : List Token) (at : Open) → OpenReached room at → Ends tokens at (N.rest_of_token at)
   token_ends ten tokens N.Between o = (tokens, N.Spelt-none _ _)
   token_ends ten tokens (N.Describing d) (begun, r) =
-      let all = described_ends _ ten d begun r in
-      let read = spelt_inside (description_agrees Windows1252 room tokens) all.2 in
+      let all = N.CompletedDescriptions.described_ends _ ten d begun r in
+      let read = spelt_inside (N.ResponseLaws.description_agrees Windows1252 room tokens) all.2 in
       grind arith
   token_ends ten tokens (InRow part) (begun, r) =
       let all = row_ends _ r in
@@ -118,7 +125,16 @@ can_be_completed room part bytes ten are h =
     let r = part_reached _ are h in
     let end = token_ends _ ten _ _ r.1 in (
       end.0 ++ Done false ∷ [],
-      response_is_spelt _ _ (grind (arith, AreBytes-append, least_type, AreBytes-ints, AreBytes-return, AreBytes-cell, AreBytes-cells, AreBytes-zeros))
-          (is_final-snoc end.0 (Done false))
+      N.ResponseMeaning.response_is_spelt _ _ (grind (
+        arith,
+        AreBytes-append,
+        N.LeastTypes.least_type,
+        AreBytes-ints,
+        AreBytes-return,
+        AreBytes-cell,
+        AreBytes-cells,
+        AreBytes-zeros,
+      ))
+          (N.TokenLaws.is_final-snoc end.0 (Done false))
           (spelt_both h (spelt_both end.1 (done_ends _ _))),
     )

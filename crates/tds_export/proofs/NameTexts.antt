@@ -1,31 +1,30 @@
 -- The names of columns, put one after another.
 use Rattle.tds_export.proofs as N
-use N.{Column, Err, List, Ok, Option, PutsPiece, Result, Sink, Stop, [], ap, arith, codes, false, joined, Bool, length, map, name_field, refl, suc, sym, take}
-use N.{true, ℕ, ◌+◌, ◌++◌, ◌<◌, ◌≤◌, ◌==◌, ◌∙◌, ◌∷◌, ◌≡◌}
+use N.{Column, List, Ok, Option, PutsPiece, Sink, Stop, [], arith, codes, joined, length, map, name_field, take, ℕ, ◌+◌, ◌++◌, ◌<◌, ◌≤◌, ◌==◌, ◌∙◌, ◌∷◌, ◌≡◌}
 use Rattle.tds_text.specs.Quoting.{after_comma, in_line}
 use Rattle.tds_cells.proofs.RunSteps.{made_more}
 
 -- one piece was put, and another after it
-pub then_puts : {W U V : Type 0} {contents : W → Option (List ℕ)} {a b c : Sink W} {u : U} {p q : List ℕ} {r : Result V Stop}
+pub then_puts : {W U V : Type 0} {contents : W → Option (List ℕ)} {a b c : Sink W} {u : U} {p q : List ℕ} {r : N.Result V Stop}
     → PutsPiece contents a b p (Ok u) → PutsPiece contents b c q r → PutsPiece contents a c (p ++ q) r
 then_puts x y = N.PutsPiece-trans _ _ _ _ _ _ _ _ x y
 
 -- where `?` passes on that the writer failed, more would have been put
-pub passed_piece : {W U V : Type 0} {contents : W → Option (List ℕ)} {a b : Sink W} {p : List ℕ} {e : Stop} {r : Result V Stop} (more : List ℕ)
-    → N.IsErrAnd r (λ stop. stop ≡ e) → PutsPiece {U = U} contents a b p (Err e) → PutsPiece contents a b (p ++ more) r
+pub passed_piece : {W U V : Type 0} {contents : W → Option (List ℕ)} {a b : Sink W} {p : List ℕ} {e : Stop} {r : N.Result V Stop} (more : List ℕ)
+    → N.IsErrAnd r (λ stop. stop ≡ e) → PutsPiece {U = U} contents a b p (N.Err e) → PutsPiece contents a b (p ++ more) r
 passed_piece more is x = N.PutsPiece-passed _ _ _ _ _ _ _ is x
 
 -- the comma before a field that isn't the first
-comma_before : (n : ℕ) (f : List ℕ) → after_comma (suc n) f ≡ codes "," ++ f
+comma_before : (n : ℕ) (f : List ℕ) → after_comma (N.suc n) f ≡ codes "," ++ f
 comma_before = grind arith
 
 -- one more field
 joined-snoc : (fs : List (List ℕ)) (f : List ℕ) → joined (fs ++ f ∷ []) ≡ joined fs ++ after_comma (length fs) f
-joined-snoc [] f = refl
+joined-snoc [] f = N.refl
 joined-snoc (a ∷ []) f = N.append_assoc a (codes ",") f
 joined-snoc (a ∷ b ∷ fs) f =
     let commas = N.append_assoc (a ++ codes ",") (joined (b ∷ fs)) (codes "," ++ f) in
-    cc (joined-snoc (b ∷ fs) f, commas, comma_before (length fs) f, comma_before (suc (length fs)) f)
+    cc (joined-snoc (b ∷ fs) f, commas, comma_before (length fs) f, comma_before (N.suc (length fs)) f)
 
 -- the text of these names, after which those are left: the line ends after the last
 abbrev pub names_text : (done left : List Column) → List ℕ
@@ -64,7 +63,7 @@ pub record NamesPut {W : Type 0} (contents : W → Option (List ℕ)) (columns l
 pub names_none : {W : Type 0} {contents : W → Option (List ℕ)} {columns left : List Column} {sink : Sink W} → left ≡ columns → 0 < length columns
     → N.IsWriting sink → NamesPut contents columns left 0 sink sink
 names_none {left} e some going =
-    record { names = record { done = []; split = e; index_is = refl }; puts = rw (none_put left (rw e some)) (N.PutsPiece-none _ _ _ going) }
+    record { names = record { done = []; split = e; index_is = N.refl }; puts = rw (none_put left (rw e some)) (N.PutsPiece-none _ _ _ going) }
 
 module _ {W : Type 0} {contents : W → Option (List ℕ)} {columns left rest : List Column} {c : Column} {index count : ℕ} {a b d : Sink W}
     (is : left ≡ c ∷ rest) (x : NamesPut contents columns left index a b) (number : count ≡ length columns) where
@@ -73,8 +72,8 @@ module _ {W : Type 0} {contents : W → Option (List ℕ)} {columns left rest : 
   names_more name = let m = one_more is x.names number in record { names = m.0; puts = rw (← m.1) (then_puts x.puts name) }
 
   -- the writer failed at the name
-  pub name_breaks : {stop : Stop} {r : Result (Unit {0}) Stop}
-      → PutsPiece {U = Unit {0}} contents b d (in_line index (index + 1 == count) (name_field c)) (Err stop) → N.IsErrAnd r (λ s. s ≡ stop)
+  pub name_breaks : {stop : Stop} {r : N.Result (Unit {0}) Stop}
+      → PutsPiece {U = Unit {0}} contents b d (in_line index (index + 1 == count) (name_field c)) (N.Err stop) → N.IsErrAnd r (λ s. s ≡ stop)
       → PutsPiece contents a d (N.header_line columns) r
   name_breaks broke is_passed =
       let m = one_more is x.names number in
@@ -89,14 +88,14 @@ names_all = grind (arith, N.append-nil)
 -- ---- the line between two sets and then the names, written to a slice
 
 -- The names of the columns but these last ones were written to the front of a slice, after the line between two sets.
-pub record NamesWritten (begun : Bool) (columns left : List Column) (index made : ℕ) (room to : List ℕ) : Type 0 where
+pub record NamesWritten (begun : N.Bool) (columns left : List Column) (index made : ℕ) (room to : List ℕ) : Type 0 where
   pub names : Named columns left index
   pub same : length to ≡ length room
   pub within : made ≤ length to
   pub text : take made to ≡ N.between begun ++ names_text names.done left
 
 -- one more name was written after what was made
-pub name_written : {begun : Bool} {columns left rest : List Column} {c : Column} {index made m count : ℕ} {room to : List ℕ} (new more : List ℕ)
+pub name_written : {begun : N.Bool} {columns left rest : List Column} {c : Column} {index made m count : ℕ} {room to : List ℕ} (new more : List ℕ)
     → left ≡ c ∷ rest → NamesWritten begun columns left index made room to → count ≡ length columns → m ≤ length new
     → length (take made to ++ (new ++ more)) ≡ length to → take m new ≡ in_line index (index + 1 == count) (name_field c)
     → NamesWritten begun columns rest (index + 1) (made + m) room (take made to ++ (new ++ more))

@@ -1,6 +1,6 @@
 -- How an export ended, by the packets of its input.
 use Rattle.tds_export.proofs as N
-use N.{List, Part, Run, Some, Stop, [], ap, arith, grammar, inl, inr, length, more, subst, sym, text, ℕ, ◌++◌, ◌<◌, ◌∙◌, ◌≡◌, limits, ◌+◌}
+use N.{List, Run, Some, Stop, [], ap, arith, grammar, inl, inr, length, text, ℕ, ◌++◌, ◌<◌, ◌∙◌, ◌≡◌, limits, ◌+◌}
 
 -- what the area holds at a part is kept, whatever follows
 pub kept_at : (area : N.Space) (tokens : List N.Token) (at : N.Open) (rest : List ℕ) → area.bytes ≡ N.description_of tokens at
@@ -24,7 +24,7 @@ zero n = omega arith
 rest_of : (bytes : List ℕ) {part payload : List ℕ} → payload ≡ bytes ++ part → N.drop (length bytes) payload ≡ part
 rest_of = grind (arith, N.drop-append_seam)
 
-module _ (run : Run) {q : N.PayloadView} {part : Part} {bytes : List ℕ} (side : ReaderSide run q) (spelt : N.Spelt (grammar run) N.response_start bytes part)
+module _ (run : Run) {q : N.PayloadView} {part : N.Part} {bytes : List ℕ} (side : ReaderSide run q) (spelt : N.Spelt (grammar run) N.response_start bytes part)
     (holds : N.IsHolding run.given.after.areas.description part) (text : N.text_put run ≡ N.text_so_far part) where
   -- what the area holds is kept
   kept : (packets : List N.Packet) → N.Keeps run packets (length bytes) part
@@ -98,7 +98,7 @@ module _ (run : Run) {q : N.PayloadView} {part : Part} {bytes : List ℕ} (side 
   ]
 
 -- how a run that read stops
-pub reading_stops : {run : Run} {q : N.PayloadView} {at : Part} {stop : Stop} → ReaderSide run q
+pub reading_stops : {run : Run} {q : N.PayloadView} {at : N.Part} {stop : Stop} → ReaderSide run q
     → N.StopsReading (grammar run) N.response_start (start run) q 0 at stop → N.IsHolding run.given.after.areas.description at
     → N.text_put run ≡ N.text_so_far at → N.Stops run stop.fault stop.place
 reading_stops {run} side s holds text = elim s.cause [

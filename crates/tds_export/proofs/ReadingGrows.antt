@@ -1,7 +1,6 @@
 -- What is read grows by each element: the text so far, and the greatest span.
 use Rattle.tds_export.proofs as N
 use N.{Grows, IsNext, List, None, Open, Part, Token, [], arith, begun, grows_same, row, text, text_so_far, ℕ, ◌++◌, ◌==◌, ◌∷◌, ◌≡◌, ◌≤◌}
-use N.TokenLaws.{begun_after, greatest_span-append, text_after-snoc}
 use N.ResponseLaws.{part_at}
 
 -- what a token byte other than that of a row begins
@@ -21,8 +20,8 @@ lead_cases = grind arith
 -- a token that is whole
 token_grows : (tokens : List Token) (t : Token) → Grows (text tokens ++ []) (text_so_far (N.with_token tokens t))
 token_grows tokens t =
-    let m = N.text_after (begun_after N.false tokens) (t ∷ []) in
-    (m, cc (N.append-nil (text tokens), N.append-nil (text tokens ++ m), text_after-snoc N.false _ t))
+    let m = N.text_after (N.TokenLaws.begun_after N.false tokens) (t ∷ []) in
+    (m, cc (N.append-nil (text tokens), N.append-nil (text tokens ++ m), N.TokenLaws.text_after-snoc N.false _ t))
 
 -- what has just begun has no text
 fresh_text : (at : Open) → IsFresh at → N.open_text at ≡ []
@@ -34,7 +33,7 @@ same_grows tokens at h = rw (fresh_text at h) (grows_same _)
 
 -- a row in its response
 with_row_grows : (tokens : List Token) (part : N.RowPart) → Grows (text tokens ++ N.row_so_far part) (text_so_far (N.with_row tokens part))
-with_row_grows = grind (arith, N.append-nil, grows_same, text_after-snoc)
+with_row_grows = grind (arith, N.append-nil, grows_same, N.TokenLaws.text_after-snoc)
 
 -- a row that begins
 start_grows : (tokens : List Token) (start : List N.Column → N.RowPart) (current : N.Option (List N.Column))
@@ -80,4 +79,4 @@ module _ (charset : N.Charset) (room : ℕ) where
   -- and to the span
   pub span_along : (p q : Part) (bytes : List ℕ) → N.Spelt (N.response charset room) p bytes q → N.span_so_far p ≤ N.span_so_far q
   span_along p q bytes s = N.Spelt-induct _ (λ r b. N.span_so_far p ≤ N.span_so_far r)
-      (grind (arith, N.choose, description_span, lead_cases, greatest_span-append)) p (omega arith) _ q s
+      (grind (arith, N.choose, description_span, lead_cases, N.TokenLaws.greatest_span-append)) p (omega arith) _ q s

@@ -1,9 +1,8 @@
 -- What the bytes that lead to a part of a response spell.
 use Rattle.tds_export.proofs as N
-use N.{Bool, Column, IsFirst, Lead, List, None, Option, Some, SpellsTokens, Token, [], ap, arith, described_after, drop, false, if◌then◌else◌, inl, lead}
-use N.{length, message, refl, sym, take, true, ℕ, ◌%◌, ◌&&◌, ◌*◌, ◌++◌, ◌+◌, ◌/◌, ◌<◌, ◌∙◌, ◌∷◌, ◌≡◌, ◌≤◌}
-use N.ResponseLaws.{ReturnMeans, return_step, described_after-append, part_at, IsFree, parts_within}
-use N.SomeBytes.{bytes_induct}
+use N.{Bool, Column, Lead, List, None, Option, Some, Token, [], ap, arith, drop, false, if◌then◌else◌, lead, length, message, refl, take, true, ℕ, ◌%◌, ◌&&◌}
+use N.{◌*◌, ◌++◌, ◌+◌, ◌/◌, ◌<◌, ◌∙◌, ◌∷◌, ◌≡◌, ◌≤◌}
+use N.ResponseLaws.{ReturnMeans, return_step, part_at, IsFree, parts_within}
 
 -- so many of the bytes after the first n, and those after them
 piece : (body : List ℕ) (n k m : ℕ) {r : List ℕ} → n + k ≡ m → drop m body ≡ r → drop n body ≡ take k (drop n body) ++ r
@@ -54,15 +53,15 @@ notice_spelt body h =
     }
 
 module _ (charset : N.Charset) (room : ℕ) where
-  one_more_token : (current : Option (List Column)) (ts : List Token) (a : List ℕ) (t : Token) (e : List ℕ) → SpellsTokens charset room current ts a
-      → N.SpellsToken charset room (described_after current ts) t e → SpellsTokens charset room current (ts ++ t ∷ []) (a ++ e)
+  one_more_token : (current : Option (List Column)) (ts : List Token) (a : List ℕ) (t : Token) (e : List ℕ) → N.SpellsTokens charset room current ts a
+      → N.SpellsToken charset room (N.described_after current ts) t e → N.SpellsTokens charset room current (ts ++ t ∷ []) (a ++ e)
   one_more_token current [] a t e h s = grind (arith, N.append-nil)
   one_more_token current (u ∷ ts) a t e h s = (
     h.0,
     h.1 ++ e,
     cc (N.append_assoc h.0 h.1 e),
     h.3,
-    one_more_token (described_after current (u ∷ [])) ts h.1 t e h.4 (grind (arith, described_after-append)),
+    one_more_token (N.described_after current (u ∷ [])) ts h.1 t e h.4 (grind (arith, N.ResponseLaws.described_after-append)),
   )
 
   -- whole tokens, the first byte of such a token, and what is after it
@@ -71,8 +70,8 @@ module _ (charset : N.Charset) (room : ℕ) where
     pub first : ℕ
     pub rest : List ℕ
     pub spelt : b ≡ front ++ first ∷ rest
-    pub before : SpellsTokens charset room None tokens front
-    pub begins : IsFirst lead first
+    pub before : N.SpellsTokens charset room None tokens front
+    pub begins : N.IsFirst lead first
     pub follows : P rest
 
   abbrev row_lead : Bool → Lead
@@ -80,9 +79,9 @@ module _ (charset : N.Charset) (room : ℕ) where
   row_lead true = N.AnNbcRow
 
   abbrev OpenMeans : List Token → N.Open → List ℕ → Type 0
-  OpenMeans tokens N.Between b = SpellsTokens charset room None tokens b
+  OpenMeans tokens N.Between b = N.SpellsTokens charset room None tokens b
   OpenMeans tokens (N.Describing d) b = AfterLead tokens N.AMetadata (N.DescribedMeans room d) b
-  OpenMeans tokens (N.InRow part) b = (columns : List Column) × (nbc : Bool) × (described_after None tokens ≡ Some columns)
+  OpenMeans tokens (N.InRow part) b = (columns : List Column) × (nbc : Bool) × (N.described_after None tokens ≡ Some columns)
       × AfterLead tokens (row_lead nbc) (N.RowMeans charset columns nbc part) b
   OpenMeans tokens (N.InReturn part) b = AfterLead tokens N.AReturn (ReturnMeans part) b
   OpenMeans tokens (N.TokenLength k) b = AfterLead tokens (N.WithBody k) (λ rest. rest ≡ []) b
@@ -98,7 +97,7 @@ module _ (charset : N.Charset) (room : ℕ) where
   further = grind (arith, N.append_assoc)
 
   token_means : {tokens : List Token} (t : Token) {lead : Lead} {P : List ℕ → Type 0} {b : List ℕ} → (h : AfterLead tokens lead P b)
-      → N.SpellsToken charset room (described_after None tokens) t (h.first ∷ h.rest) → PartMeans (N.with_token tokens t) b
+      → N.SpellsToken charset room (N.described_after None tokens) t (h.first ∷ h.rest) → PartMeans (N.with_token tokens t) b
   token_means = grind (arith, one_more_token)
 
   with_described_means : {tokens : List Token} (d : N.DescriptionPart) {b : List ℕ} → AfterLead tokens N.AMetadata (N.DescribedMeans room d) b
@@ -108,13 +107,13 @@ module _ (charset : N.Charset) (room : ℕ) where
   with_described_means d h = h
 
   row_token : {current : Option (List Column)} {columns : List Column} (nbc : Bool) (cells : List N.Cell) (first : ℕ) (rest : List ℕ)
-      → current ≡ Some columns → IsFirst (row_lead nbc) first → N.RowMeans charset columns nbc (N.WholeRow cells) rest
+      → current ≡ Some columns → N.IsFirst (row_lead nbc) first → N.RowMeans charset columns nbc (N.WholeRow cells) rest
       → N.SpellsRowToken charset current cells (first ∷ rest)
   row_token false cells first rest e begins h = grind arith
   row_token true cells first rest e begins h = rw e (rest, N.inr ((first, refl, begins), h))
 
   with_row_means : {tokens : List Token} (part : N.RowPart) {b : List ℕ} {columns : List Column} (nbc : Bool)
-      → described_after None tokens ≡ Some columns → AfterLead tokens (row_lead nbc) (N.RowMeans charset columns nbc part) b
+      → N.described_after None tokens ≡ Some columns → AfterLead tokens (row_lead nbc) (N.RowMeans charset columns nbc part) b
       → PartMeans (N.with_row tokens part) b
   with_row_means (N.WholeRow cells) nbc e h = token_means _ h (grind (arith, row_token))
   with_row_means part {columns} nbc e h = (columns, nbc, e, h)
@@ -124,23 +123,23 @@ module _ (charset : N.Charset) (room : ℕ) where
   with_return_means (N.WholeReturn r) h = token_means _ h (grind arith)
   with_return_means part h = h
 
-  row_begins : (tokens : List Token) (b : List ℕ) (x : ℕ) (current : Option (List Column)) → described_after None tokens ≡ current
-      → N.row_byte_fault true current ≡ None → SpellsTokens charset room None tokens b → N.lead_of x ≡ Some N.ARow
+  row_begins : (tokens : List Token) (b : List ℕ) (x : ℕ) (current : Option (List Column)) → N.described_after None tokens ≡ current
+      → N.row_byte_fault true current ≡ None → N.SpellsTokens charset room None tokens b → N.lead_of x ≡ Some N.ARow
       → PartMeans (N.start_of_row tokens (N.row_start N.PlainRow charset) current) (b ++ x ∷ [])
   row_begins tokens b x None e f h begins = cc
   row_begins tokens b x (Some columns) e f h begins =
       with_row_means _ _ e (record { front = b; first = x; rest = []; spelt = refl; before = h; begins = grind arith; follows = N.row_start_means _ _ })
 
-  byte_step : (tokens : List Token) (b : List ℕ) (x : ℕ) (begun : Option Lead) → N.lead_of x ≡ begun → SpellsTokens charset room None tokens b
-      → N.lead_fault (described_after None tokens) x begun ≡ None → PartMeans (N.after_first charset tokens begun) (b ++ x ∷ [])
+  byte_step : (tokens : List Token) (b : List ℕ) (x : ℕ) (begun : Option Lead) → N.lead_of x ≡ begun → N.SpellsTokens charset room None tokens b
+      → N.lead_fault (N.described_after None tokens) x begun ≡ None → PartMeans (N.after_first charset tokens begun) (b ++ x ∷ [])
   byte_step = grind (arith, row_begins, N.eq_true)
 
   body_means : {tokens : List Token} {k : N.Bodied} {body b : List ℕ} → (h : AfterLead tokens (N.WithBody k) (N.SpellsBody body) b) → IsFree k body
       → PartMeans (N.with_token tokens (N.bodied k body)) b
   body_means {tokens} {k} {body} {b} h f = token_means _ h (spelt k h.begins f)
     where
-      spelt : (k : N.Bodied) → IsFirst (N.WithBody k) h.first → IsFree k body
-          → N.SpellsToken charset room (described_after None tokens) (N.bodied k body) (h.first ∷ h.rest)
+      spelt : (k : N.Bodied) → N.IsFirst (N.WithBody k) h.first → IsFree k body
+          → N.SpellsToken charset room (N.described_after None tokens) (N.bodied k body) (h.first ∷ h.rest)
       spelt (N.APassed passed) begins f = grind (arith, begins)
       spelt b begins f = (h.rest, body, grind arith, h.follows, notice_spelt _ (grind arith))
 
@@ -163,7 +162,7 @@ module _ (charset : N.Charset) (room : ℕ) where
 
   -- What is read as a part of a response is spelt so.
   part_is_spelt : {bytes : List ℕ} {p : N.Part} → N.AreBytes bytes → N.Spelt (N.response charset room) N.response_start bytes p → PartMeans p bytes
-  part_is_spelt {p} are h = bytes_induct _ (λ q b e k are n. part_step _ b are k n) _ refl _ p are h
+  part_is_spelt {p} are h = N.SomeBytes.bytes_induct _ (λ q b e k are n. part_step _ b are k n) _ refl _ p are h
 
   -- What is read between tokens, after a final one, is a response.
   pub response_is_spelt : {payload : List ℕ} {tokens : List Token} → N.AreBytes payload → N.is_final tokens ≡ true

@@ -1,10 +1,9 @@
 -- The tokens of a response, one after another.
 use Rattle.tds_export.proofs as N
-use N.{Bool, SinkView, Progress, Report, Stop, [], arith, inl, response, true, ℕ, ◌++◌, ◌+◌, ◌-◌, ◌^◌, ◌∙◌, ◌≡◌, ◌≤◌, View}
-use N.TokenSteps.{stops_further, stops_quietly, streams_both}
+use N.{SinkView, Report, Stop, [], arith, response, true, ℕ, ◌++◌, ◌+◌, ◌-◌, ◌^◌, ◌∙◌, ◌≡◌, ◌≤◌, View}
 
 -- whole tokens were read and their text put
-pub record Runs (charset : N.Charset) (u v : View) (progress : Progress) : Type 0 where
+pub record Runs (charset : N.Charset) (u v : View) (progress : N.Progress) : Type 0 where
   pub tokens : N.List N.Token
   pub streams : N.Streams (response charset u.area.room) N.text_so_far N.response_start u.seen v.seen u.held v.held (N.after_tokens tokens)
   pub place_is : v.place ≡ u.place + N.length streams.bytes
@@ -12,7 +11,7 @@ pub record Runs (charset : N.Charset) (u v : View) (progress : Progress) : Type 
   pub holds : N.IsHolding v.area (N.after_tokens tokens)
   pub noted : N.IsNoted v.notice tokens
 
-abbrev pub runs_none : {charset : N.Charset} {u : View} {progress : Progress} → u.held.delivered ≤ 2 ^ 64 - 1 → N.Tracks progress []
+abbrev pub runs_none : {charset : N.Charset} {u : View} {progress : N.Progress} → u.held.delivered ≤ 2 ^ 64 - 1 → N.Tracks progress []
     → u.area ≡ N.empty u.area.room → N.IsNoted u.notice [] → Runs charset u u progress
 runs_none {u} d tracks is noted = record {
   tokens = [];
@@ -29,15 +28,15 @@ pub runs_ended : {R W : Type 0} {remaining : R → N.Option (N.List ℕ)} (conte
     → Runs charset u (record (N.view_of remaining contents new) { seen = N.seen remaining old.payload.now }) new.progress
 runs_ended = grind arith
 
-module _ {charset : N.Charset} {u v : View} {s : Progress} (x : Runs charset u v s) where
+module _ {charset : N.Charset} {u v : View} {s : N.Progress} (x : Runs charset u v s) where
   module _ {charset' : N.Charset} (e : charset' ≡ charset) (f : v.area.room ≡ u.area.room) where
     -- more tokens were read
-    pub runs_on : {w : View} {t : Progress} → N.ReadsNext charset' (N.after_tokens x.tokens) x.tokens v w t → Runs charset u w t
+    pub runs_on : {w : View} {t : N.Progress} → N.ReadsNext charset' (N.after_tokens x.tokens) x.tokens v w t → Runs charset u w t
     runs_on y =
         let z = rw (e, f) at y in
         record {
           tokens = x.tokens ++ z.0.more;
-          streams = streams_both x.streams z.0.streams;
+          streams = N.TokenSteps.streams_both x.streams z.0.streams;
           place_is = grind (arith, N.length-append);
           tracks = z.0.tracks;
           holds = z.0.holds;
@@ -45,21 +44,22 @@ module _ {charset : N.Charset} {u v : View} {s : Progress} (x : Runs charset u v
         }
 
     -- what stops a step stops the run
-    pub stops_on : {d : N.PayloadView} {k : SinkView} {area : N.Space} {failed : Bool} {stop : Stop}
+    pub stops_on : {d : N.PayloadView} {k : SinkView} {area : N.Space} {failed : N.Bool} {stop : Stop}
         → N.StepStops (response charset' v.area.room) (N.after_tokens x.tokens) v.seen d v.place v.held k area failed stop
         → N.StepStops (response charset u.area.room) N.response_start u.seen d u.place u.held k area failed stop
-    stops_on y = stops_further x.streams x.place_is (rw (e, f) at y)
+    stops_on y = N.TokenSteps.stops_further x.streams x.place_is (rw (e, f) at y)
 
   -- ---- the message's end
 
   module _ {c : N.PayloadView} (t : N.Takes v.seen c [] 1) (o : N.IsOver c) where
     -- the message ended after the last token, which wasn't final
-    pub stops_end : {failed : Bool} → failed ≡ N.false → v.held.delivered ≤ 2 ^ 64 - 1 → s.is_final ≡ N.false
+    pub stops_end : {failed : N.Bool} → failed ≡ N.false → v.held.delivered ≤ 2 ^ 64 - 1 → s.is_final ≡ N.false
         → N.StepStops (response charset u.area.room) N.response_start u.seen c u.place u.held v.held v.area failed
         (record { fault = N.EndWithoutDone; place = N.Payload v.place })
     stops_end going d open_end =
         let stop : Stop = record { fault = N.EndWithoutDone; place = N.Payload v.place } in
-        stops_further x.streams x.place_is (stops_quietly N.refl x.holds d going (N.cut_at_once _ _ v.seen c _ [] o.0 stop (omega arith)
+        N.TokenSteps.stops_further x.streams x.place_is (N.TokenSteps.stops_quietly N.refl x.holds d going (N.cut_at_once _ _ v.seen c _ [] o.0 stop
+        (omega arith)
         (grind (arith, N.Ends-after, N.Consumes-nil, N.Stays-none)) (grind arith)))
 
     abbrev pub reads_whole : s.is_final ≡ true → N.ReadsWhole (response charset u.area.room) N.response_start u.seen c u.held v.held v.area

@@ -1,6 +1,6 @@
 -- Lists of bytes.
 use Rattle.tds_export.proofs as N
-use N.{AreBytes, List, [], arith, inl, inr, suc, true, zero, ℕ, ◌++◌, ◌<◌, ◌==◌, ◌^◌, ◌||◌, ◌∷◌, ◌≡◌}
+use N.{AreBytes, List, [], arith, suc, zero, ℕ, ◌++◌, ◌<◌, ◌==◌, ◌^◌, ◌||◌, ◌∷◌, ◌≡◌}
 
 -- each of some bytes is below 256
 pub byte_below : (xs : List ℕ) (i : ℕ) → AreBytes xs → N.slice_index xs i < 256
@@ -22,7 +22,7 @@ AreBytes-replicate zero x h = tt
 AreBytes-replicate (suc n) x h = (h, AreBytes-replicate n x h)
 
 -- a number that a test names
-pub exactly : (P : ℕ → Type 0) (n m : ℕ) → (n == m) ≡ true → P m → P n
+pub exactly : (P : ℕ → Type 0) (n m : ℕ) → (n == m) ≡ N.true → P m → P n
 exactly = grind arith
 
 -- what each element of bytes keeps holds at their end

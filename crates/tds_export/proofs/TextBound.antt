@@ -1,12 +1,9 @@
 -- The text so far is no longer than 64 bytes for each byte read.
 use Rattle.tds_export.proofs as N
-use N.{AreBytes, Bool, Column, IsNext, List, None, Open, Part, Some, Token, [], arith, choose, codes, false, joined, length}
-use N.{length-append, map, response, text, true, ℕ, ◌*◌, ◌++◌, ◌+◌, ◌∷◌, ◌≡◌, ◌≤◌, ◌==◌}
-use N.ReadingGrows.{lead_cases}
+use N.{Bool, Column, List, None, Part, Some, [], arith, choose, false, joined, length, length-append, response, text, true, ℕ, ◌*◌, ◌++◌, ◌+◌, ◌∷◌, ◌≡◌, ◌≤◌}
+use N.{◌==◌}
 use N.FieldLengths.{long_length, long_more, open_length, open_more, read_short}
 use N.TokenLaws.{bare, bare_body, bare_fixed, begun_after, text_after-snoc}
-use N.ResponseLaws.{part_at}
-use N.SomeBytes.{bytes_induct}
 
 -- ---- fields
 
@@ -41,7 +38,7 @@ FieldMore (Some a) (Some b) = length b ≤ length a + 48
 
 module _ (column : ℕ) where
   -- each element of a cell adds no more
-  cell_more : (p : N.CellPart) {e : List ℕ} → AreBytes e → IsNext (N.cell column) p e → FieldMore (N.field_so_far p) (N.field_so_far (N.cell_add p e))
+  cell_more : (p : N.CellPart) {e : List ℕ} → N.AreBytes e → N.IsNext (N.cell column) p e → FieldMore (N.field_so_far p) (N.field_so_far (N.cell_add p e))
   cell_more (N.ScalarBytes k i) bytes n = grind (arith, read_short)
   cell_more (N.ScalarLength k) {e} bytes n = grind (arith, choose)
   cell_more (N.ShortLength c) bytes n = grind (arith, choose, long_length, open_length)
@@ -83,7 +80,7 @@ none_null (c ∷ columns) k = none_null columns (k + 1)
 module _ (charset : N.Charset) where
   -- the cells to come begin
   next_length : (cells : List N.Cell) (ks : List (Column × Bool))
-      → row_length (N.next_cell charset cells ks) ≤ length (joined (map N.field cells)) + 5 * how_many_null ks + 2
+      → row_length (N.next_cell charset cells ks) ≤ length (joined (N.map N.field cells)) + 5 * how_many_null ks + 2
   next_length cells [] = grind (arith, length-append, joined)
   next_length cells ((k, true) ∷ ks) = grind (arith, N.map-append, one_more_length, (next_length (cells ++ N.Null ∷ []) ks))
   next_length cells ((k, false) ∷ ks) = grind (arith, N.start_quiet)
@@ -99,7 +96,7 @@ described_pending d = 0
 -- one more column in the header
 header_more : (columns : List Column) (c : Column) → length (N.header_line (columns ++ c ∷ [])) ≤ length (N.header_line columns) + 3 + 4 * length c.name
 header_more columns c =
-    let fs = map N.name_field columns in
+    let fs = N.map N.name_field columns in
     let f = N.name_field c in
     omega (
       arith,
@@ -112,14 +109,14 @@ header_more columns c =
 
 module _ (room : ℕ) where
   -- each element of a description pays for what it adds
-  described_more : {d : N.DescriptionPart} {e : List ℕ} → IsNext (N.description room) d e
+  described_more : {d : N.DescriptionPart} {e : List ℕ} → N.IsNext (N.description room) d e
       → described_pending (N.add_described d e) ≤ described_pending d + 64 * length e
   described_more n = grind (arith, choose, header_more)
 
 -- ---- a response
 
 -- what the bytes so far still pay for
-abbrev pending : Open → ℕ
+abbrev pending : N.Open → ℕ
 pending (N.Describing d) = described_pending d
 pending (N.InRow part) = row_pending part
 pending at = 0
@@ -129,12 +126,12 @@ abbrev grown : Part → ℕ
 grown p = length (N.text_so_far p) + pending p.at
 
 -- a row in its response
-with_row_grown : (tokens : List Token) (part : N.RowPart) → grown (N.with_row tokens part) ≤ length (text tokens) + row_length part
+with_row_grown : (tokens : List N.Token) (part : N.RowPart) → grown (N.with_row tokens part) ≤ length (text tokens) + row_length part
 with_row_grown = grind (arith, length-append, N.append-nil, begun_after, text_after-snoc)
 
 module _ (charset : N.Charset) (room : ℕ) where
   -- each element pays for what it adds
-  grown_more : (p : Part) (e : List ℕ) → AreBytes e → IsNext (response charset room) p e → grown ((response charset room).add p e) ≤ grown p + 64 * length e
+  grown_more : (p : Part) (e : List ℕ) → N.AreBytes e → N.IsNext (response charset room) p e → grown ((response charset room).add p e) ≤ grown p + 64 * length e
   grown_more = grind (
     arith,
     bare_body,
@@ -142,8 +139,8 @@ module _ (charset : N.Charset) (room : ℕ) where
     bare,
     choose,
     described_more,
-    lead_cases,
-    part_at,
+    N.ReadingGrows.lead_cases,
+    N.ResponseLaws.part_at,
     cell_more,
     next_length,
     null_most,
@@ -159,10 +156,11 @@ module _ (charset : N.Charset) (room : ℕ) where
   )
 
   -- so do all elements between two states
-  grown_along : {p q : Part} {bytes : List ℕ} → AreBytes bytes → N.Spelt (response charset room) p bytes q → grown q ≤ grown p + 64 * length bytes
-  grown_along {p} {q} are h = bytes_induct (λ r b. grown r ≤ grown p + 64 * length b) (grind (arith, grown_more, length-append)) p (omega arith) _ q are h
+  grown_along : {p q : Part} {bytes : List ℕ} → N.AreBytes bytes → N.Spelt (response charset room) p bytes q → grown q ≤ grown p + 64 * length bytes
+  grown_along {p} {q} are h = N.SomeBytes.bytes_induct (λ r b. grown r ≤ grown p + 64 * length b) (grind (arith, grown_more, length-append)) p
+      (omega arith) _ q are h
 
   -- the text so far is at most 64 times as long as all that is read
-  pub bounded_along : (q : Part) (bytes : List ℕ) → AreBytes bytes → N.Spelt (response charset room) N.response_start bytes q
+  pub bounded_along : (q : Part) (bytes : List ℕ) → N.AreBytes bytes → N.Spelt (response charset room) N.response_start bytes q
       → length (N.text_so_far q) ≤ 64 * length bytes
   bounded_along q bytes are h = omega (arith, grown_along are h)

@@ -1,10 +1,9 @@
 -- Tokens by their first bytes.
 use Rattle.tds_export.proofs as N
-use N.{Bool, Cell, IsNext, List, None, Row, RowsPart, Some, Token, Tracks, [], ap, append_assoc, arith, before, counted, if◌then◌else◌, length, map, refl}
-use N.{response, rows, sym, text, true, with_row, ℕ, ◌++◌, ◌+◌, ◌==◌, ◌∙◌, ◌∷◌, ◌≡◌, Charset, SinkView, Part, PayloadView, Takes, after_tokens, between, inl}
-use N.{inr, ◌-◌, ◌<◌, ◌^◌, ◌≤◌, columns_of, Stop}
-use N.TokenSteps.{OpenTexts, holds-snoc, quietly, row_stops, stops_further, same_text, start_text, stops_quietly, streams_both}
-use N.ResponseLaws.{described_after-append, spelt_both}
+use N.{Bool, Cell, IsNext, List, None, Row, RowsPart, Some, Token, [], ap, append_assoc, arith, before, if◌then◌else◌, length, map, refl, response, rows, sym}
+use N.{text, true, with_row, ℕ, ◌++◌, ◌+◌, ◌==◌, ◌∙◌, ◌∷◌, ◌≡◌, Charset, SinkView, Part, PayloadView, after_tokens, between, ◌-◌, ◌<◌, ◌^◌, ◌≤◌, columns_of}
+use N.{Stop}
+use N.TokenSteps.{OpenTexts, holds-snoc, quietly, row_stops, stops_further, same_text, start_text, stops_quietly}
 use N.TokenLaws.{text_after-snoc, tracks_row, with_rows}
 
 -- rows describe no columns
@@ -32,7 +31,7 @@ module _ (which : N.RowToken) (charset : Charset) (room : ℕ) (all : List N.Col
 
     element_next : {before : List (List Cell)} (p : N.RowPart) (e : List ℕ) → IsNext (rows which charset all) (record { before = before; at = p }) e
         → Steps (record { before = before; at = p }) e ((rows which charset all).add (record { before = before; at = p }) e)
-    element_next = grind (arith, N.eq_true, append_assoc, described_after-append, N.map-append, rows_describe)
+    element_next = grind (arith, N.eq_true, append_assoc, N.ResponseLaws.described_after-append, N.map-append, rows_describe)
 
     -- what is read of rows from their start on and put, is read of the response and put
     abbrev rows_stream : {t : RowsPart} {a b : PayloadView} {h j : SinkView}
@@ -44,20 +43,20 @@ module _ (which : N.RowToken) (charset : Charset) (room : ℕ) (all : List N.Col
         let same = ap (λ l. l ++ x.puts.0) (ap N.text_so_far (sym begins) ∙ in_rows_text s) ∙ append_assoc (text tokens) (N.rows_so_far s) x.puts.0
         ∙ ap (λ l. text tokens ++ l) x.puts.1 ∙ sym (in_rows_text t) in
         let spelt = N.Spelt-induct _ (λ p b. N.Spelt (response charset room) (in_rows s) b (in_rows p))
-        (λ p b e k n. (let y = element_next p.at e n in spelt_both k (rw y.1 at (N.Spelt-one _ _ e y.0)))) s (N.Spelt-none _ _) _ t x.spelt
+        (λ p b e k n. (let y = element_next p.at e n in N.ResponseLaws.spelt_both k (rw y.1 at (N.Spelt-one _ _ e y.0)))) s (N.Spelt-none _ _) _ t x.spelt
         in
         record { bytes = x.bytes; spelt = rw begins at spelt; takes = x.takes; puts = (x.puts.0, same, x.puts.2) }
 
--- these rows more are counted
+-- these rows more are N.counted
 tracks_rows : {s : N.Progress} (tokens : List Token) (rs : List (List Cell)) → 0 < length rs → N.TracksBefore s tokens
-    → Tracks (with_rows s (length rs)) (tokens ++ map Row rs)
+    → N.Tracks (with_rows s (length rs)) (tokens ++ map Row rs)
 tracks_rows tokens [] some k = absurd (omega arith)
 tracks_rows tokens (r ∷ []) some k = tracks_row k r
 tracks_rows {s} tokens (r ∷ q ∷ qs) some k =
     let first = tracks_row k r in
     let n : (s.report.rows + 1) + length (q ∷ qs) ≡ s.report.rows + length (r ∷ q ∷ qs) = omega arith in
     rw (append_assoc tokens (Row r ∷ []) (map Row (q ∷ qs))) at
-    (N.subst (λ (n : ℕ). Tracks (record s { report = record s.report { rows = n } }) ((tokens ++ Row r ∷ []) ++ map Row (q ∷ qs))) n
+    (N.subst (λ (n : ℕ). N.Tracks (record s { report = record s.report { rows = n } }) ((tokens ++ Row r ∷ []) ++ map Row (q ∷ qs))) n
     (tracks_rows {s = with_rows s 1} (tokens ++ Row r ∷ []) (q ∷ qs) (omega arith) (grind arith)))
 
 -- the description stays what it was
@@ -127,7 +126,7 @@ begins_lead = grind (arith, columns_known, some_columns, start_text)
 -- the first byte of a token is read, and nothing put for it
 abbrev first : {charset : Charset} {room byte : ℕ} {tokens : List Token} {to : Part} {a b : PayloadView} {h : SinkView}
     → BeginsToken charset room tokens byte to
-    → h.delivered ≤ 2 ^ 64 - 1 → Takes a b (byte ∷ []) 1 → N.Streams (response charset room) N.text_so_far (after_tokens tokens) a b h h to
+    → h.delivered ≤ 2 ^ 64 - 1 → N.Takes a b (byte ∷ []) 1 → N.Streams (response charset room) N.text_so_far (after_tokens tokens) a b h h to
 first {charset} {room} {byte} {tokens} {to} {a} {b} {h} begins d t = record {
   bytes = byte ∷ [];
   spelt = (N.reads_one _ _ a b _ _ begins.next t begins.to_is).spelt;
@@ -137,14 +136,14 @@ first {charset} {room} {byte} {tokens} {to} {a} {b} {h} begins d t = record {
 
 module _ {charset : Charset} {room byte : ℕ} {tokens : List Token} {to : Part} {a : PayloadView}
     (b : PayloadView) {c : PayloadView} {place middle : ℕ} {h k : SinkView}
-    {area : N.Space} (begins : BeginsToken charset room tokens byte to) (d : h.delivered ≤ 2 ^ 64 - 1) (t : Takes a b (byte ∷ []) 1)
+    {area : N.Space} (begins : BeginsToken charset room tokens byte to) (d : h.delivered ≤ 2 ^ 64 - 1) (t : N.Takes a b (byte ∷ []) 1)
     (at : middle ≡ place + 1) where
   -- a token is read after its first byte
   abbrev pub reads_after_byte : {place' : ℕ} {progress : N.Progress} → N.ReadsTokens (response charset room) to tokens b c middle place' h k progress area
       → N.ReadsTokens (response charset room) (after_tokens tokens) tokens a c place place' h k progress area
   reads_after_byte r = record {
     more = r.more;
-    streams = streams_both (first begins d t) r.streams;
+    streams = N.TokenSteps.streams_both (first begins d t) r.streams;
     place_is = r.place_is ∙ omega (arith, N.length-append (byte ∷ []) r.streams.bytes);
     tracks = r.tracks;
     holds = r.holds;
@@ -161,7 +160,7 @@ module _ (charset : Charset) (room : ℕ) {place : ℕ} {tokens : List Token} {a
     (d : h.delivered ≤ 2 ^ 64 - 1) (going : failed ≡ N.false) (holds : N.IsHolding area (after_tokens tokens)) where
   -- a byte begins no token
   pub stops_at_byte : {byte : ℕ} {described : Bool} {fault : N.Fault} → Describe tokens described → N.IsRefusedByte described byte fault
-      → Takes a b (byte ∷ []) 1 → N.IsBetween b
+      → N.Takes a b (byte ∷ []) 1 → N.IsBetween b
       → N.StepStops (response charset room) (after_tokens tokens) a b place h h area failed (record { fault = fault; place = N.Payload place })
   stops_at_byte {byte} {described} {fault} k why t between =
       stops_quietly refl holds d going (N.refused_at_once _ _ a b _ (byte ∷ []) fault (omega arith) refl (grind arith) t between)

@@ -1,8 +1,7 @@
 -- What one more token adds to a response.
 use Rattle.tds_export.proofs as N
-use N.{Bool, Error, List, Metadata, None, Option, Row, Token, Tracks, [], arith, before, begun, false, first_error, how_many, is_final, more, passed, refl, sym}
-use N.{text_after, true, ℕ, ◌++◌, ◌+◌, ◌<◌, ◌∙◌, ◌∷◌, ◌≡◌}
-use N.ResponseLaws.{described_after-append}
+use N.{Bool, Error, List, Metadata, Row, Token, Tracks, [], arith, before, begun, false, first_error, how_many, is_final, more, passed, refl, text_after, true}
+use N.{ℕ, ◌++◌, ◌+◌, ◌<◌, ◌∙◌, ◌∷◌, ◌≡◌}
 
 -- whether a set has begun after these tokens
 abbrev pub begun_after : Bool → List Token → Bool
@@ -36,13 +35,13 @@ pub uncounted : (p : Token → Bool) (ts : List Token) (t : Token) → how_many 
 uncounted p ts t e = simp (how_many-snoc, e, N.add_none)
 
 -- without an error there is no first one
-pub no_errors : (ts : List Token) → how_many N.is_error ts ≡ 0 → first_error ts ≡ None
+pub no_errors : (ts : List Token) → how_many N.is_error ts ≡ 0 → first_error ts ≡ N.None
 no_errors [] h = refl
 no_errors (Error n ∷ ts) h = grind arith
 no_errors (u ∷ ts) h = no_errors ts h
 
 -- and the next one is
-pub first_next : (ts : List Token) (n : N.Notice) → first_error ts ≡ None → first_error (ts ++ Error n ∷ []) ≡ N.Some n
+pub first_next : (ts : List Token) (n : N.Notice) → first_error ts ≡ N.None → first_error (ts ++ Error n ∷ []) ≡ N.Some n
 first_next [] n h = refl
 first_next (Error m ∷ ts) n h = cc
 first_next (u ∷ ts) n h = first_next ts n h
@@ -60,7 +59,7 @@ same_first (Error n ∷ ts) us h = refl
 same_first (u ∷ ts) us h = same_first ts us h
 
 -- the last status of a procedure after more tokens
-pub status_after-append : (before : Option ℕ) (a b : List Token)
+pub status_after-append : (before : N.Option ℕ) (a b : List Token)
     → N.return_status_after before (a ++ b) ≡ N.return_status_after (N.return_status_after before a) b
 status_after-append before [] b = refl
 status_after-append before (N.NoMetadata ∷ a) b = status_after-append _ a b
@@ -93,7 +92,7 @@ is_bare t = true
 pub record IsBare (t : Token) : Type 0 where
   pub text : (begun : Bool) → text_after begun (t ∷ []) ≡ []
   pub encoded : (before : List ℕ) → N.encoded_after before (t ∷ []) ≡ before
-  pub columns : (before : Option (List N.Column)) → N.described_after before (t ∷ []) ≡ before
+  pub columns : (before : N.Option (List N.Column)) → N.described_after before (t ∷ []) ≡ before
 
 pub bare : {t : Token} → is_bare t ≡ true → IsBare t
 bare h = grind arith
@@ -122,7 +121,7 @@ abbrev pub with_rows : N.Progress → ℕ → N.Progress
 with_rows s n = record s { report = record s.report { rows = s.report.rows + n } }
 
 -- what more tokens change
-pub ruleset tracked = (described_after-append, encoded_after-append, how_many-snoc, is_final-snoc, same_first, status_after-append, uncounted)
+pub ruleset tracked = (N.ResponseLaws.described_after-append, encoded_after-append, how_many-snoc, is_final-snoc, same_first, status_after-append, uncounted)
 
 module _ {s : N.Progress} {ts : List Token} (k : N.Reflects s ts false) where
   pub tracks_quiet : (t : Token) {final : Bool} → is_quiet t ≡ true → final ≡ is_final (t ∷ []) → Tracks (record s { is_final = final }) (ts ++ t ∷ [])
@@ -137,6 +136,6 @@ module _ {s : N.Progress} {ts : List Token} (k : N.Reflects s ts false) where
 
   -- ---- ERROR and INFO
 
-  pub tracks_error : (n : N.Notice) {first : Option N.ServerError} → first ≡ N.option_map N.server_error (first_error (ts ++ Error n ∷ []))
+  pub tracks_error : (n : N.Notice) {first : N.Option N.ServerError} → first ≡ N.option_map N.server_error (first_error (ts ++ Error n ∷ []))
       → Tracks (record s { report = record s.report { errors = s.report.errors + 1; first_error = first } }) (ts ++ Error n ∷ [])
   tracks_error n e = grind (arith, tracked)

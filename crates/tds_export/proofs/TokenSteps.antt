@@ -1,16 +1,15 @@
 -- The tokens, as they are read and their text is put.
 use Rattle.tds_export.proofs as N
-use N.{Bool, Charset, Column, Fault, Grammar, SinkView, IsHolding, List, Option, Part, Progress, Report, PayloadView, Space, Stop, Token, View, []}
-use N.{after_tokens, ap, append-nil, arith, between, false, in_metadata, inl, inr, length, refl, subst, sym, text, text_so_far, true, view_of, with_row, ℕ}
-use N.{◌%◌, ◌++◌, ◌+◌, ◌-◌, ◌<◌, ◌==◌, ◌^◌, ◌∙◌, ◌∷◌, ◌≡◌, ◌≤◌}
-use N.TokenLaws.{bare, bare_fixed, begun_after, begun_where_sets, encoded_after-append, greatest_span-append, is_bare, same_first, text_after-snoc}
-use N.TokenLaws.{tracked}
+use N.{Bool, Charset, Fault, Grammar, SinkView, IsHolding, List, Option, Part, Progress, Report, PayloadView, Space, Stop, Token, View, [], ap, append-nil}
+use N.{arith, between, false, in_metadata, inl, inr, length, refl, sym, text, text_so_far, view_of, with_row, ℕ, ◌%◌, ◌++◌, ◌+◌, ◌-◌, ◌<◌, ◌==◌, ◌^◌, ◌∙◌, ◌∷◌}
+use N.{◌≡◌, ◌≤◌}
+use N.TokenLaws.{bare, bare_fixed, begun_after, begun_where_sets, encoded_after-append, greatest_span-append, is_bare, same_first, text_after-snoc, tracked}
 use N.ResponseLaws.{description_agrees, row_agrees, part_at, inside, read_inside, stop_inside}
 
 -- A token has begun: what the tokens before it left is known, and the sink goes on.
 pub record OpenTexts (tokens : List Token) (progress : Progress) (u : View) : Type 0 where
   pub tracks : N.TracksBefore progress tokens
-  pub holds : IsHolding u.area (after_tokens tokens)
+  pub holds : IsHolding u.area (N.after_tokens tokens)
   pub noted : N.IsNoted u.notice tokens
   pub delivered : u.held.delivered ≤ 2 ^ 64 - 1
   pub going : u.failed ≡ false
@@ -60,7 +59,7 @@ stops_quietly = grind (arith, same_text)
 
 -- a token that describes nothing leaves the area holding what it held
 pub holds-snoc : {area : Space} {tokens : List Token} (t : Token) → N.encoded_after (N.encoded_after [] tokens) (t ∷ []) ≡ N.encoded_after [] tokens
-    → IsHolding area (after_tokens tokens) → IsHolding area (after_tokens (tokens ++ t ∷ []))
+    → IsHolding area (N.after_tokens tokens) → IsHolding area (N.after_tokens (tokens ++ t ∷ []))
 holds-snoc = grind (arith, encoded_after-append, greatest_span-append)
 
 module _ {tokens : List Token} {s : Progress} {u : View} (begun : OpenTexts tokens s u) where
@@ -91,7 +90,7 @@ module _ {tokens : List Token} {s : Progress} {u : View} (begun : OpenTexts toke
     }
 
     -- a token that has no text and describes nothing was read
-    abbrev pub bare_reads : text_so_far from ≡ text tokens ++ [] → is_bare t ≡ true → N.Tracks progress (tokens ++ t ∷ [])
+    abbrev pub bare_reads : text_so_far from ≡ text tokens ++ [] → is_bare t ≡ N.true → N.Tracks progress (tokens ++ t ∷ [])
         → N.ReadsTokens g from tokens a b place place' u.held u.held progress u.area
     bare_reads none is tracks =
         let so = bare is in
@@ -110,13 +109,13 @@ module _ (charset : Charset) {tokens : List Token} {s : Progress} {u : View} (be
 -- ---- ROW
 
 -- no text stands for a row that has begun
-pub start_text : (charset : Charset) (columns : List Column) (tokens : List Token) → 0 < length columns
+pub start_text : (charset : Charset) (columns : List N.Column) (tokens : List Token) → 0 < length columns
     → text_so_far (N.in_row charset columns tokens) ≡ text tokens ++ []
 start_text charset [] tokens some = grind arith
 start_text charset (c ∷ cs) tokens some = simp N.start_quiet
 
 -- and while a row is read
-row_holds : {area : Space} {tokens : List Token} (part : N.RowPart) → IsHolding area (after_tokens tokens) → IsHolding area (with_row tokens part)
+row_holds : {area : Space} {tokens : List Token} (part : N.RowPart) → IsHolding area (N.after_tokens tokens) → IsHolding area (with_row tokens part)
 row_holds (N.WholeRow cells) h = holds-snoc _ refl h
 row_holds part h = grind arith
 
@@ -124,7 +123,7 @@ module _ (charset : Charset) (room : ℕ) {place : ℕ} {start : N.RowPart} {are
     : Stop}
     (tokens : List Token) where
   -- a row stopped the call
-  pub row_stops : IsHolding area (after_tokens tokens) → N.StopsStreaming (N.row charset) N.row_so_far start a b place before after failed stop
+  pub row_stops : IsHolding area (N.after_tokens tokens) → N.StopsStreaming (N.row charset) N.row_so_far start a b place before after failed stop
       → N.StepStops (N.response charset room) (with_row tokens start) a b place before after area failed stop
   row_stops holds x =
       let agrees = row_agrees _ _ _ in
@@ -151,7 +150,7 @@ module _ (charset : Charset) (room : ℕ) {place : ℕ} {start : N.RowPart} {are
 
 -- ---- COLMETADATA
 
-some_bytes : (room : ℕ) (area bytes : List ℕ) (columns : List Column) → N.Spelt (N.description room) N.BeforeCount bytes (N.WholeDescription area columns)
+some_bytes : (room : ℕ) (area bytes : List ℕ) (columns : List N.Column) → N.Spelt (N.description room) N.BeforeCount bytes (N.WholeDescription area columns)
     → 0 < length bytes
 some_bytes room area [] columns h = absurd (let same = N.one_state _ _ _ _ _ h (N.Spelt-none _ _) in cc)
 some_bytes room area (x ∷ bytes) columns h = omega arith
@@ -169,12 +168,12 @@ module _ (charset : Charset) {tokens : List Token} {s : Progress} {u : View} {ar
       → N.StopsIn charset (in_metadata tokens) u (record u { seen = b; area = area }) stop
   metadata_stops x = stops_quietly (grind arith) (grind arith) begun.delivered begun.going (stop_inside (description_agrees _ _ _) x.stops)
 
-  module _ {columns : List Column} {place : ℕ} {after : SinkView} (shown : N.columns_of area.bytes ≡ columns)
+  module _ {columns : List N.Column} {place : ℕ} {after : SinkView} (shown : N.columns_of area.bytes ≡ columns)
       (x : N.Describes u.area.room N.BeforeCount u.seen b u.place place u.area.peak area (N.WholeDescription area.bytes columns)) where
     -- the description was read, and its header put
     pub metadata_reads : N.Puts u.held after (between (N.nat_lt 0 s.report.sets) ++ N.header_line (N.columns_of area.bytes))
         → N.ReadsNext charset (in_metadata tokens) tokens u (record u { seen = b; place = place; held = after; area = area })
-        (record s { report = record s.report { sets = s.report.sets + 1 }; described = true })
+        (record s { report = record s.report { sets = s.report.sets + 1 }; described = N.true })
     metadata_reads puts = quietly begun refl (token_reads begun (N.Metadata area.bytes columns) (read_inside (description_agrees _ _ _) x.reads) x.place_is
         (grind (arith, between, append-nil, begun_after, begun_where_sets, text_after-snoc)) (grind (arith, tracked, shown))
         (grind (arith, encoded_after-append, greatest_span-append)))
@@ -209,7 +208,7 @@ module _ (charset : Charset) {tokens : List Token} {s : Progress} {u : View} {ar
 
 -- A token has begun where the run goes on.
 pub begun_in : {R W : Type 0} (remaining : R → Option (List ℕ)) (contents : W → Option (List ℕ)) {old : N.Exporter R W} {tokens : List Token}
-    → N.IsRunning old → N.TracksBefore old.progress tokens → IsHolding old.description.now (after_tokens tokens) → N.IsNoted old.notice.now tokens
+    → N.IsRunning old → N.TracksBefore old.progress tokens → IsHolding old.description.now (N.after_tokens tokens) → N.IsNoted old.notice.now tokens
     → OpenTexts tokens old.progress (view_of remaining contents old)
 begun_in = grind arith
 

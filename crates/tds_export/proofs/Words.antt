@@ -1,4 +1,13 @@
 -- The words that the proofs of this crate share.
+unfoldable pub use Rattle.{
+  std.specs.{Char.{encode_utf8, Utf16.utf16_chars}, Fmt.digits, Str.{is_utf8, chars, Lossy.{utf8_valid_len, utf8_error_len}}},
+  hex.specs.Hex.encode_with,
+  uuid.proofs.OnLiterals.uuid_on_literals,
+  tds_values.specs.{Calendar.date_of, TypeInfo.{rest_length, named_kind}},
+  tds_packet.{proofs.ElementLaws.Told, specs.Coming.{front_packet, message}},
+  tds_columns.specs.Description.refused_kind,
+  tds_export.specs.Exports.Tells,
+}
 pub use Rattle.std.proofs.Common.{◌≡◌, ◌∙◌, inl, inr, ℕ, ◌+◌, ◌≤◌, List, [], ◌∷◌, ◌++◌, length, take, drop, refl, sym, ap, subst, arith, append_assoc}
 pub use Rattle.std.proofs.Common.{append-nil, take-append-drop, Result, Ok, Err, ◌-◌, ◌^◌, ◌<◌, Bool, false, length-append, zero, suc, ◌%◌, true, replicate}
 pub use Rattle.std.proofs.Common.{add-one, Option, ◌*◌, slice_index, map, ◌⊎◌, MatchResult, unsigned_abs, length-take, ◌/◌, length-drop, max, take-add}
@@ -17,15 +26,15 @@ pub use Rattle.std.specs.Prelude.{◌==◌, is_ok, Some, None, ◌&&◌, not, na
 pub use Rattle.std.specs.Result.{IsErrAnd}
 pub use Rattle.byteorder.specs.Endian.{little_number, little_from}
 pub use Rattle.hex.proofs.HexLemmas.{length-encode_with}
-pub use Rattle.tds_meter.specs.Counts.{Rose, one_more, counted}
+pub use Rattle.tds_meter.specs.Counts.{one_more, counted}
 pub use Rattle.tds_meter.specs.Rooms.{AreEmptied, is_intact}
 pub use Rattle.tds_meter.specs.Space.{Space, appended, empty}
 pub use Rattle.tds_meter.specs.declared.areas.Areas.{Areas}
 pub use Rattle.tds_values.proofs.TextLengths.{length-text_of}
 pub use Rattle.tds_values.proofs.TypeInfoLemmas.{bare_type, valid_of, rest_length_of}
 pub use Rattle.tds_values.specs.Kind.{is_scalar, is_valid, is_length_allowed}
-pub use Rattle.tds_values.specs.Numbers.{little, integer_of, money_of}
-pub use Rattle.tds_values.specs.Scalar.{read_of, checked, value_of, datetime_of}
+pub use Rattle.tds_values.specs.Numbers.{little, integer_of}
+pub use Rattle.tds_values.specs.Scalar.{read_of, checked, value_of}
 pub use Rattle.tds_values.specs.ScalarText.{text_of, FitsWidths}
 pub use Rattle.tds_values.specs.TimeOfDay.{time_length}
 pub use Rattle.tds_values.specs.TypeInfo.{kind_of, IsTypeInfo}
@@ -35,7 +44,7 @@ pub use Rattle.tds_values.specs.declared.kind.Kind.{Kind}
 pub use Rattle.tds_values.specs.declared.kind.Kind.TheVariants.{Guid, Decimal, Time, DateTime2, DateTimeOffset, Int4}
 pub use Rattle.tds_values.specs.declared.scalar.ScalarValue.{ScalarValue}
 pub use Rattle.tds_values.specs.declared.scalar.ValueFault.{ValueFault}
-pub use Rattle.tds_packet.proofs.Choices.{choose, choose_false, eq_true, eq_false, le_true, test_le, test_lt, choose_true, is_some_value, lt_true}
+pub use Rattle.tds_packet.proofs.Choices.{choose, choose_false, eq_true, eq_false, le_true, test_le, test_lt, is_some_value, lt_true}
 pub use Rattle.tds_packet.proofs.ElementLaws.{Spelt-induct, feed-Spelt, feed_all-append, longest_cut, one_longest, read_longest, told, Spelt-append, Spelt-step}
 pub use Rattle.tds_packet.proofs.ElementLaws.{Spelt-none, Inside, Inside-Spelt, AreBytes-front, AreBytes-back, longest_refused, Spelt-one, some_longest}
 pub use Rattle.tds_packet.proofs.ElementLaws.{one_state, refused_for_good, no_further}
@@ -71,8 +80,7 @@ pub use Rattle.tds_columns.proofs.ColumnMeaning.{not_long, not_zero, room_for, k
 pub use Rattle.tds_columns.proofs.ElementSteps.{cut_into, refused_into}
 pub use Rattle.tds_columns.proofs.ViewLaws.{description_shows}
 pub use Rattle.tds_columns.specs.Description.{Column, SpellsColumn, SpellsColumns, ColumnPlace, ColumnHead, ColumnInfo, NameCount, NameUnits, DescriptionPart}
-pub use Rattle.tds_columns.specs.Description.{BeforeCount, NoDescription, InColumn, WholeDescription, with_column, with_kind, add_described, description}
-pub use Rattle.tds_columns.specs.Description.{type_fault, span}
+pub use Rattle.tds_columns.specs.Description.{BeforeCount, NoDescription, InColumn, WholeDescription, with_column, with_kind, add_described, description, span}
 pub use Rattle.tds_columns.specs.Elements.{TakesInto, EndsInto}
 pub use Rattle.tds_columns.specs.Gather.{Describes, StopsDescribing}
 pub use Rattle.tds_columns.specs.ReturnedType.{return_column, KnownType, NoType, ReadsType, StopsType, TypeHead, TypePart, TypeRest, returned_type, with_known}
@@ -100,8 +108,7 @@ pub use Rattle.tds_cells.proofs.RowLaws.{cell_in_row, begins_open, row_is_read, 
 pub use Rattle.tds_cells.proofs.RowMeaning.{RowMeans, row_step, row_start_means}
 pub use Rattle.tds_cells.proofs.RowTexts.{start_quiet}
 pub use Rattle.tds_cells.specs.Cells.{Cell, Null, ScalarCell, DataCell, shape, CellPart, ScalarBytes, ScalarLength, ShortLength, ShortData, Total, ChunkLength}
-pub use Rattle.tds_cells.specs.Cells.{ChunkData, WholeCell}
-pub use Rattle.tds_cells.specs.Cells.{cell_start, cell_add, cell, within_total, is_total, return_charset, field, field_so_far}
+pub use Rattle.tds_cells.specs.Cells.{ChunkData, WholeCell, cell_start, cell_add, cell, is_total, return_charset, field, field_so_far}
 pub use Rattle.tds_cells.specs.Rows.{RowPart, WholeRow, row, marked, bit, bitmap_length, Bitmap, InCell, next_cell, with_cell, row_start, NbcRow, PlainRow}
 pub use Rattle.tds_cells.specs.Rows.{row_so_far, RowToken}
 pub use Rattle.tds_cells.specs.Runs.{RowsPart, lines, rows, rows_so_far}
@@ -139,12 +146,3 @@ pub use Rattle.tds_export.specs.declared.progress.Progress.{Progress}
 pub use Rattle.tds_export.specs.declared.report.Report.{Report}
 pub use Rattle.tds_export.specs.declared.report.ServerError.{ServerError}
 pub use Rattle.tds_export.specs.declared.report.Stopped.{Stopped}
-unfoldable pub use Rattle.{
-  std.specs.{Char.{encode_utf8, Utf16.utf16_chars}, Fmt.digits, Str.{is_utf8, chars, Lossy.{utf8_valid_len, utf8_error_len}}},
-  hex.specs.Hex.encode_with,
-  uuid.proofs.OnLiterals.uuid_on_literals,
-  tds_values.specs.{Calendar.date_of, TypeInfo.{rest_length, named_kind}},
-  tds_packet.{proofs.ElementLaws.Told, specs.Coming.{front_packet, message}},
-  tds_columns.specs.Description.refused_kind,
-  tds_export.specs.Exports.Tells,
-}

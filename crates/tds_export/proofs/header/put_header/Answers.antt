@@ -1,13 +1,12 @@
 use Rattle.tds_export.proofs as N
 use N.header.put_header.Goals as goal
-use N.NameTexts.{then_puts}
 use Rattle.tds_csv.proofs.LentRooms.{kept}
 
 pub returns-in_default : goal.returns-in_default
 returns-in_default g c =
     let none = kept {U = Unit {0}} c.args.sink.now c.spare.result.now c.write_header.new.to c.waiting-waiting.result c.write_header.auto.to
     c.waiting-waiting.ensures c.requires.writing N.refl (N.Ok (tt {0})) c.commit.ensures in
-    then_puts none c.put_by_names.ensures
+    N.NameTexts.then_puts none c.put_by_names.ensures
 
 pub returns : goal.returns
 returns g c = kept c.args.sink.now c.spare.result.now c.write_header.new.to c.waiting-waiting.result c.write_header.auto.to

@@ -1,9 +1,9 @@
-use Rattle.std.proofs.Common.{drop-drop}
-use Rattle.tds_packet.proofs.Futures.{Takes-more}
 use Rattle.tds_export.proofs as N
 use N.notice.pass_notice.Goals as goal
 use N.{buffered, rules, seen, take, ◌≡◌}
-use N.Bodies.{LengthRead, body_passed}
+use N.Bodies.{LengthRead}
+use Rattle.std.proofs.Common.{drop-drop}
+use Rattle.tds_packet.proofs.Futures.{Takes-more}
 
 pub returns-in-Some-clause-gives : goal.returns-in-Some-clause-gives
 returns-in-Some-clause-gives g c =
@@ -17,7 +17,7 @@ returns-in-Some-clause-gives g c =
     let body = take n (buffered between) in (
       body,
       λ charset room tokens which notice.
-          body_passed charset room notice length c.in-Some.ensures.least body (search rules)
+          N.Bodies.body_passed charset room notice length c.in-Some.ensures.least body (search rules)
           (Takes-more (seen remaining between) (seen remaining c.consume-in-Some.new.self) body 0 n (omega N.arith) c.consume-in-Some.ensures.gives)
           (search rules) (rw rest c.in-Some.ensures.holds),
     )

@@ -1,9 +1,6 @@
 use Rattle.tds_export.proofs as N
 use N.run.export.Goals as goal
 use N.{ap, arith, refl, ◌≡◌}
-use N.DeviceFaults.{blamed, no_failure}
-use N.Endings.{rooms}
-use N.ToldAnswers.{report_tells, stop_tells}
 use N.run.export.Given.{Over}
 
 -- ---- the answer is a report
@@ -24,7 +21,7 @@ reported g c = let at = N.moment g.R.Read.remaining g.W.Write.contents in record
 
 all_read : (g : Over) (c : goal.In-Ok g) → N.Reports (reported g c) c.in-Ok.report
 all_read g c =
-    let emptied = rooms _ _ c.requires c.restart.ensures.emptied in
+    let emptied = N.Endings.rooms _ _ c.requires c.restart.ensures.emptied in
     let limit : c.max_wire-max_wire.result ≡ c.args.areas.now.limits.max_wire = search N.rules in
     let gives = rw (c.new-payload.ensures.begun.begins, emptied.0, limit, c.new-sink.ensures.held, emptied.1) at c.in-Ok.ensures.gives in
     record {
@@ -38,10 +35,10 @@ all_read g c =
 
 pub returns-in-Ok-clause-exports : goal.returns-in-Ok-clause-exports
 returns-in-Ok-clause-exports g c =
-    record { gives = grind (arith, all_read g c); tells = grind (arith, report_tells (all_read g c)); failed_reads = tt; failed_writes = tt }
+    record { gives = grind (arith, all_read g c); tells = grind (arith, N.ToldAnswers.report_tells (all_read g c)); failed_reads = tt; failed_writes = tt }
 
 pub returns-in-Ok-clause-no_failure : goal.returns-in-Ok-clause-no_failure
-returns-in-Ok-clause-no_failure g c = let none = no_failure _ _ (all_read g c) in (grind (arith, none), grind (arith, none))
+returns-in-Ok-clause-no_failure g c = let none = N.DeviceFaults.no_failure _ _ (all_read g c) in (grind (arith, none), grind (arith, none))
 
 -- ---- the answer is a stop
 
@@ -61,7 +58,7 @@ stopped g c = let at = N.moment g.R.Read.remaining g.W.Write.contents in record 
 
 read_so_far : (g : Over) (c : goal.After-to-in-Err-1 g) → N.StopsExport (stopped g c) c.stop_at.result
 read_so_far g c =
-    let emptied = rooms _ _ c.requires c.restart.ensures.emptied in
+    let emptied = N.Endings.rooms _ _ c.requires c.restart.ensures.emptied in
     let limit : c.max_wire-max_wire.result ≡ c.args.areas.now.limits.max_wire = search N.rules in
     let begins = c.new-payload.ensures.begun in
     record {
@@ -81,10 +78,10 @@ read_so_far g c =
 
 pub returns-in-Err-clause-exports : goal.returns-in-Err-clause-exports
 returns-in-Err-clause-exports g c =
-    let blame = blamed (read_so_far g c) in
+    let blame = N.DeviceFaults.blamed (read_so_far g c) in
     record {
       gives = grind (arith, read_so_far g c);
-      tells = grind (arith, stop_tells (read_so_far g c));
+      tells = grind (arith, N.ToldAnswers.stop_tells (read_so_far g c));
       failed_reads = λ e. let r = blame.0 e in grind (arith, r);
       failed_writes = λ e. let r = blame.1 e in grind (arith, r);
     }

@@ -1,17 +1,14 @@
 use Rattle.tds_export.proofs as N
 use N.exporter.Exporter.done.Goals as goal
 use N.{refl, rules, ◌≡◌}
-use N.TokenSteps.{fixed_reads, stops_first, step_read}
-use N.TokenLaws.{tracks_quiet}
-use N.ResponseLaws.{fill_cut}
 
 pub returns-in_err-fill : goal.returns-in_err-fill
-returns-in_err-fill g c = step_read c.requires.running (search rules) (λ tokens begun. let twelve : N.length c.fill.new.to ≡ 12 = search rules in
-    N.passed _ _ _ _ c.from_residual.ensures.1 (stops_first begun refl refl
-    (fill_cut refl refl twelve (c.in_err-fill.ensures.part c.requires.running.payload.going))))
+returns-in_err-fill g c = N.TokenSteps.step_read c.requires.running (search rules) (λ tokens begun. let twelve : N.length c.fill.new.to ≡ 12 = search rules in
+    N.passed _ _ _ _ c.from_residual.ensures.1 (N.TokenSteps.stops_first begun refl refl
+    (N.ResponseLaws.fill_cut refl refl twelve (c.in_err-fill.ensures.part c.requires.running.payload.going))))
 
 pub returns : goal.returns
-returns g c = step_read c.requires.running (search rules)
+returns g c = N.TokenSteps.step_read c.requires.running (search rules)
     (λ tokens begun. let twelve : N.length c.fill.new.to ≡ 12 = search rules in
-    fixed_reads _ begun _ {which = N.ADone} _ (rw twelve at c.in_ok-fill.ensures.place) twelve (rw twelve at c.in_ok-fill.ensures.all)
-    (tracks_quiet begun.tracks _ refl (grind N.arith)) refl)
+    N.TokenSteps.fixed_reads _ begun _ {which = N.ADone} _ (rw twelve at c.in_ok-fill.ensures.place) twelve (rw twelve at c.in_ok-fill.ensures.all)
+    (N.TokenLaws.tracks_quiet begun.tracks _ refl (grind N.arith)) refl)

@@ -1,13 +1,12 @@
 use Rattle.tds_export.proofs as N
 use N.exporter.Exporter.nbc_rows.Goals as goal
 use N.{ap, ◌∙◌}
-use N.TokenBytes.{rows_read, rows_stop}
-use N.TokenSteps.{step_read}
 
 pub returns-in_err-rows : goal.returns-in_err-rows
-returns-in_err-rows g c = step_read c.requires.begun.running (search N.rules) (λ tokens begun. N.passed _ _ _ _ c.from_residual.ensures.1
-    (rows_stop _ _ c.requires.described (ap N.columns_of (c.view-columns.ensures ∙ c.bytes.ensures.value)) begun c.in_err-rows.ensures.rows))
+returns-in_err-rows g c = N.TokenSteps.step_read c.requires.begun.running (search N.rules) (λ tokens begun. N.passed _ _ _ _ c.from_residual.ensures.1
+    (N.TokenBytes.rows_stop _ _ c.requires.described (ap N.columns_of (c.view-columns.ensures ∙ c.bytes.ensures.value)) begun c.in_err-rows.ensures.rows))
 
 pub returns : goal.returns
-returns g c = step_read c.requires.begun.running (search N.rules)
-    (λ tokens begun. rows_read _ _ c.requires.described (ap N.columns_of (c.view-columns.ensures ∙ c.bytes.ensures.value)) begun c.in_ok-rows.ensures.rows)
+returns g c = N.TokenSteps.step_read c.requires.begun.running (search N.rules)
+    (λ tokens begun. N.TokenBytes.rows_read _ _ c.requires.described (ap N.columns_of (c.view-columns.ensures ∙ c.bytes.ensures.value)) begun
+    c.in_ok-rows.ensures.rows)

@@ -1,7 +1,7 @@
 use Rattle.tds_export.proofs as N
 use N.exporter.Exporter.run.Goals as goal
-use N.{arith, held, inl, refl, rules, true, ◌∙◌, ◌≡◌}
-use N.RunSteps.{completes, runs_none, runs_on, runs_ended, reads_whole, stops_end, stops_on}
+use N.{refl, rules, true, ◌∙◌, ◌≡◌}
+use N.RunSteps.{completes, runs_none, runs_on, runs_ended, stops_end, stops_on}
 
 pub tokens-init : goal.tokens-init
 tokens-init g c = record {
@@ -13,7 +13,7 @@ tokens-init g c = record {
   token = refl;
   notice = refl;
   small = refl;
-  forward = omega arith;
+  forward = omega N.arith;
   runs = λ tracks empty noted. runs_none c.requires.sink.ready.2 tracks empty noted;
 }
 
@@ -27,14 +27,14 @@ tokens-preserved g c = record {
   token = c.in_ok-token.ensures.leaves.areas.token.room ∙ c.tokens.invariant.token;
   notice = c.in_ok-token.ensures.leaves.areas.notice.room ∙ c.tokens.invariant.notice;
   small = c.in_ok-token.ensures.leaves.areas.small.room ∙ c.tokens.invariant.small;
-  forward = omega (arith, c.tokens.invariant.forward, c.in_ok-token.ensures.leaves.forward);
+  forward = omega (N.arith, c.tokens.invariant.forward, c.in_ok-token.ensures.leaves.forward);
   runs = λ tracks empty noted. let x = c.tokens.invariant.runs tracks empty noted in
       runs_on x c.tokens.invariant.same.6 c.tokens.invariant.room (rw c.if-branch.true at (c.in_ok-token.ensures.gives x.tokens x.tracks x.holds x.noted));
 }
 
 pub returns-in_err-token-clause-gives : goal.returns-in_err-token-clause-gives
 returns-in_err-token-clause-gives g c = λ tracks empty noted. let x = c.tokens.invariant.runs tracks empty noted in
-    N.passed _ _ _ _ c.from_residual.ensures.1 (inl
+    N.passed _ _ _ _ c.from_residual.ensures.1 (N.inl
     (stops_on x c.tokens.invariant.same.6 c.tokens.invariant.room (c.in_err-token.ensures.gives x.tokens x.tracks x.holds x.noted)))
 
 pub returns-then-not-self-clause-gives : goal.returns-then-not-self-clause-gives
@@ -42,7 +42,8 @@ returns-then-not-self-clause-gives g c = λ tracks empty noted. let first = c.to
     let y = rw c.if-branch.false at (c.in_ok-token.ensures.gives first.tokens first.tracks first.holds first.noted) in
     let open_end : c.token.new.self.progress.is_final ≡ N.false = search rules in
     let sink = c.in_ok-token.ensures.leaves.running.sink in
-    rw (c.in_payload.ensures, c.place-place.ensures) (inl (stops_end (runs_ended g.W.Write.contents first y) y.takes y.over sink.writing sink.ready.2 open_end))
+    rw (c.in_payload.ensures, c.place-place.ensures) (N.inl (stops_end (runs_ended g.W.Write.contents first y) y.takes y.over sink.writing sink.ready.2
+    open_end))
 
 pub returns-in_err-finish-clause-gives : goal.returns-in_err-finish-clause-gives
 returns-in_err-finish-clause-gives g c = λ tracks empty noted. let first = c.tokens.invariant.runs tracks empty noted in
@@ -51,7 +52,7 @@ returns-in_err-finish-clause-gives g c = λ tracks empty noted. let first = c.to
     N.passed _ _ _ _ c.from_residual-in_err-finish.ensures.1 (N.inr (
       record {
         middle = _;
-        whole = reads_whole (runs_ended g.W.Write.contents first y) y.takes y.over final;
+        whole = N.RunSteps.reads_whole (runs_ended g.W.Write.contents first y) y.takes y.over final;
         fails = c.in_err-finish.ensures.gives c.in_ok-token.ensures.leaves.running.sink.writing;
       },
       c.in_err-finish.ensures.failed,
@@ -74,6 +75,6 @@ returns-clause-leaves g c =
       payload = search (rules, running);
       sink = search rules;
       areas = search (rules, running);
-      forward = omega (arith, c.tokens.invariant.forward, c.in_ok-token.ensures.leaves.forward);
+      forward = omega (N.arith, c.tokens.invariant.forward, c.in_ok-token.ensures.leaves.forward);
       running = search (rules, running);
     }

@@ -1,7 +1,6 @@
 use Rattle.tds_export.proofs as N
-use N.{[], ◌-◌, ◌≡◌, ◌≤◌}
-use N.RunSteps.{Runs}
 use N.exporter.Exporter.run.Given as goal
+use N.{[], ◌-◌, ◌≡◌, ◌≤◌}
 
 abbrev pub invariant-tokens : goal.invariant-tokens
 invariant-tokens g l = record {
@@ -15,7 +14,7 @@ invariant-tokens g l = record {
   small : l.self.small.now.room ≡ l.initial.self.small.now.room;
   forward : l.initial.self.payload.now.place ≤ l.self.payload.now.place;
   runs : N.Tracks l.initial.self.progress [] → l.initial.self.description.now ≡ N.empty l.initial.self.description.now.room
-      → N.IsNoted l.initial.self.notice.now [] → Runs l.initial.self.charset (N.view_of g.R.Read.remaining g.W.Write.contents l.initial.self)
+      → N.IsNoted l.initial.self.notice.now [] → N.RunSteps.Runs l.initial.self.charset (N.view_of g.R.Read.remaining g.W.Write.contents l.initial.self)
       (N.view_of g.R.Read.remaining g.W.Write.contents l.self) l.self.progress;
 }
 
