@@ -151,13 +151,14 @@ fn whole_values_are_written(rt: HostRuntime) -> Result<(), Fail> {
     Ok(())
 }
 
-// Text of 64 characters, and the length of its field in less room than any text may want; none where a character isn't of ASCII, or
-// is a quote.
+// Text of 64 characters, the text of the last one in UTF-8, and the length of the field in less room than any text may want; none
+// where the last isn't of ASCII, or is a quote, but in UTF-16 if any text has room from the last sixteen on.
 struct Tight {
     what: &'static str,
     content: Content,
     character: &'static [u8],
     last: &'static [u8],
+    text: &'static [u8],
     made: Option<usize>,
 }
 
@@ -167,6 +168,7 @@ const TIGHT: [Tight; 7] = [
         content: Content::Utf16,
         character: &[0x61, 0x00],
         last: &[0x62, 0x00],
+        text: b"b",
         made: Some(66),
     },
     Tight {
@@ -174,13 +176,15 @@ const TIGHT: [Tight; 7] = [
         content: Content::Utf16,
         character: &[0x61, 0x00],
         last: &[0xE9, 0x00],
-        made: None,
+        text: b"\xC3\xA9",
+        made: Some(67),
     },
     Tight {
         what: "ASCII in Windows-1252",
         content: Content::Windows1252,
         character: &[0x61],
         last: &[0x62],
+        text: b"b",
         made: Some(66),
     },
     Tight {
@@ -188,6 +192,7 @@ const TIGHT: [Tight; 7] = [
         content: Content::Windows1252,
         character: &[0x61],
         last: &[0xE9],
+        text: b"\xC3\xA9",
         made: None,
     },
     Tight {
@@ -195,6 +200,7 @@ const TIGHT: [Tight; 7] = [
         content: Content::Utf8,
         character: &[0x61],
         last: &[0x62],
+        text: b"b",
         made: Some(66),
     },
     Tight {
@@ -202,6 +208,7 @@ const TIGHT: [Tight; 7] = [
         content: Content::Utf8,
         character: &[0x61],
         last: &[0x22],
+        text: b"\"\"",
         made: None,
     },
     Tight {
@@ -209,6 +216,7 @@ const TIGHT: [Tight; 7] = [
         content: Content::Utf16,
         character: &[0x61, 0x00],
         last: &[0x62],
+        text: b"b",
         made: None,
     },
 ];
@@ -223,7 +231,8 @@ fn check_tight(alloc: Global, row: &Tight) -> Result<(), Fail> {
         want.push(0x61)?;
     }
     source.extend_from_slice(row.last)?;
-    want.extend_from_slice(b"b\"")?;
+    want.extend_from_slice(row.text)?;
+    want.push(0x22)?;
     if source.len() > 128 {
         return Err(Fail::new(format_args!("{} is too long", row.what)));
     }

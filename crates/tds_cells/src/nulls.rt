@@ -280,8 +280,8 @@ impl<'a> RowFormat<'a> {
         Span { used, made }
     }
 
-    // Writes cell after cell of an NBCROW, as far as they are NULL by their bit or whole in these bytes, aren't in several
-    // chunks, and have room, and steps over them. NULLs are written here.
+    // Writes cell after cell of an NBCROW, as far as they are NULL by their bit or whole in these bytes, and have room, and steps
+    // over them. NULLs are written here.
     #[inline(always)]
     fn run_nbc(&self, at: &mut Cursor<'a>, bitmap: &[u8], bytes: &[u8], to: &mut [u8]) -> Span
         requires bitmap { self.now.count ≤ 8 * length bitmap.now }

@@ -256,65 +256,33 @@ all_plain us {w} {z} long few fits none lanes tested =
 
 -- ---- eight units and eight others
 
--- a lane that is a quote has all its bits, and any other none
-abbrev quote_lane : ℕ → ℕ
-quote_lane u = N.cond (N.eqb u 34) 65535 0
-
--- two that have none of the high bits together, and of which none is a quote
-plain_pair : (a b : ℕ) → a < 65536 → b < 65536 → N.bit_and (N.bit_or a b) 65408 ≡ 0 → top 15 (N.bit_or (quote_lane a) (quote_lane b)) ≡ false
-    → (N.is_wide a ≡ false) × (N.is_wide b ≡ false)
-plain_pair a b small little none other =
+-- two that have none of the high bits together are small
+small_pair : (a b : ℕ) → a < 65536 → b < 65536 → N.bit_and (N.bit_or a b) 65408 ≡ 0 → (a < 128) × (b < 128)
+small_pair a b small little none =
     let low : N.bit_or a b < 128 =
     grind (arith, and_high_mask 16 7 (omega arith) (N.bit_or a b) (or_lt 16 a b small little), none) in
-    let quotes : (N.eqb a 34 ≡ false) × (N.eqb b 34 ≡ false) = grind arith in
-    grind (arith, le_or_l, le_or_r, low, quotes)
+    grind (arith, le_or_l, le_or_r, low)
 
-plain_pairs : (xs ys : List ℕ) → length xs ≡ length ys → Each1 (Fits N.w16) xs → Each1 (Fits N.w16) ys
-    → Each1 (λ x. x ≡ 0) (map (λ u. N.bit_and u 65408) (zip2 N.bit_or xs ys))
-    → Each1 (λ m. top 15 m ≡ false) (zip2 N.bit_or (map quote_lane xs) (map quote_lane ys))
-    → Each1 (λ u. N.is_wide u ≡ false) xs × Each1 (λ u. N.is_wide u ≡ false) ys
-plain_pairs [] [] same fits more none other = (tt, tt)
-plain_pairs (x ∷ xs) (y ∷ ys) same fits more none other =
-    let here = plain_pair x y fits.0.fits more.0.fits none.0 other.0 in
-    let later = plain_pairs xs ys (omega arith) fits.1 more.1 none.1 other.1 in
+small_pairs : (xs ys : List ℕ) → length xs ≡ length ys → Each1 (Fits N.w16) xs → Each1 (Fits N.w16) ys
+    → Each1 (λ x. x ≡ 0) (map (λ u. N.bit_and u 65408) (zip2 N.bit_or xs ys)) → Each1 (λ u. u < 128) xs × Each1 (λ u. u < 128) ys
+small_pairs [] [] same fits more none = (tt, tt)
+small_pairs (x ∷ xs) (y ∷ ys) same fits more none =
+    let here = small_pair x y fits.0.fits more.0.fits none.0 in
+    let later = small_pairs xs ys (omega arith) fits.1 more.1 none.1 in
     ((here.0, later.0), (here.1, later.1))
-plain_pairs [] (y ∷ ys) same fits more none other = grind arith
-plain_pairs (x ∷ xs) [] same fits more none other = grind arith
+small_pairs [] (y ∷ ys) same fits more none = grind arith
+small_pairs (x ∷ xs) [] same fits more none = grind arith
 
--- the lanes of two comparisons with a quote
-pub quote_lanes : (xs ys : List ℕ) → length xs ≡ 8 → length ys ≡ 8
-    → zip2 N.bit_or (zip2 (λ a b. N.cond (N.eqb a b) 65535 0) xs (N.replicate 8 34)) (zip2 (λ a b. N.cond (N.eqb a b) 65535 0) ys (N.replicate 8 34))
-    ≡ zip2 N.bit_or (map quote_lane xs) (map quote_lane ys)
-quote_lanes xs ys long long' = N.ap₂ (zip2 N.bit_or) (N.zip2_splat (λ a b. N.cond (N.eqb a b) 65535 0) xs 8 34 long)
-    (N.zip2_splat (λ a b. N.cond (N.eqb a b) 65535 0) ys 8 34 long')
+-- two small ones have none
+no_pair : (a b : ℕ) → a < 128 → b < 128 → N.bit_and (N.bit_or a b) 65408 ≡ 0
+no_pair a b small little =
+    let low = or_lt 7 a b small little in
+    grind (arith, and_high_mask 16 7 (omega arith) (N.bit_or a b) (omega (arith, low)), low)
 
-pub both_plain : (xs ys : List ℕ) {z : List ℕ} → length xs ≡ 8 → length ys ≡ 8 → Each1 (Fits N.w16) xs → Each1 (Fits N.w16) ys
-    → N.fold_l N.bit_or 0 (zip2 N.bit_and (zip2 N.bit_or xs ys) (N.replicate 8 65408)) ≡ 0
-    → z ≡ zip2 N.bit_or (map quote_lane xs) (map quote_lane ys) → N.nat_eq (mask_l (map (top 15) z) % 2 ^ 64) 0 ≡ true
-    → Each1 (λ u. N.is_wide u ≡ false) xs × Each1 (λ u. N.is_wide u ≡ false) ys
-both_plain xs ys {z} long long' fits more none lanes tested =
-    let counted : length (zip2 N.bit_or xs ys) ≡ 8 = grind (arith, N.length-zip2) in
-    let few : length (map (top 15) z) ≤ 64 = grind (arith, N.length-map, N.length-zip2) in
-    let quotes = none_passes (top 15) z (grind (arith, N.mask_l-mod (map (top 15) z) 64 few)) in
-    plain_pairs xs ys (omega (arith, long, long')) fits more (none_joined 0 _ (rw (N.zip2_splat N.bit_and (zip2 N.bit_or xs ys) 8 65408 counted) at none)).1
-    (rw lanes at quotes)
-
--- two of ASCII that aren't quotes have none of these bits
-no_pair : (a b : ℕ) → N.is_wide a ≡ false → N.is_wide b ≡ false
-    → (N.bit_and (N.bit_or a b) 65408 ≡ 0) × (top 15 (N.bit_or (quote_lane a) (quote_lane b)) ≡ false)
-no_pair a b first second =
-    let small : (a < 128) × (b < 128) = grind arith in
-    let low = or_lt 7 a b small.0 small.1 in
-    (grind (arith, and_high_mask 16 7 (omega arith) (N.bit_or a b) (omega (arith, low)), low), grind arith)
-
-no_pairs : (xs ys : List ℕ) → length xs ≡ length ys → Each1 (λ u. N.is_wide u ≡ false) xs → Each1 (λ u. N.is_wide u ≡ false) ys
+no_pairs : (xs ys : List ℕ) → length xs ≡ length ys → Each1 (λ u. u < 128) xs → Each1 (λ u. u < 128) ys
     → Each1 (λ x. x ≡ 0) (map (λ u. N.bit_and u 65408) (zip2 N.bit_or xs ys))
-    × Each1 (λ m. top 15 m ≡ false) (zip2 N.bit_or (map quote_lane xs) (map quote_lane ys))
-no_pairs [] [] same first second = (tt, tt)
-no_pairs (x ∷ xs) (y ∷ ys) same first second =
-    let here = no_pair x y first.0 second.0 in
-    let later = no_pairs xs ys (omega arith) first.1 second.1 in
-    ((here.0, later.0), (here.1, later.1))
+no_pairs [] [] same first second = tt
+no_pairs (x ∷ xs) (y ∷ ys) same first second = (no_pair x y first.0 second.0, no_pairs xs ys (omega arith) first.1 second.1)
 no_pairs [] (y ∷ ys) same first second = grind arith
 no_pairs (x ∷ xs) [] same first second = grind arith
 
@@ -322,13 +290,33 @@ none_folded : (xs : List ℕ) → Each1 (λ x. x ≡ 0) xs → N.fold_l N.bit_or
 none_folded [] each = refl
 none_folded (x ∷ xs) each = rw each.0 (none_folded xs each.1)
 
-module _ (xs ys : List ℕ) (long : length xs ≡ 8) (long' : length ys ≡ 8) (first : Each1 (λ u. N.is_wide u ≡ false) xs)
-    (second : Each1 (λ u. N.is_wide u ≡ false) ys) where
-  pub no_high : N.fold_l N.bit_or 0 (zip2 N.bit_and (zip2 N.bit_or xs ys) (N.replicate 8 65408)) ≡ 0
-  no_high =
-      let counted : length (zip2 N.bit_or xs ys) ≡ 8 = grind (arith, N.length-zip2) in
-      rw (N.zip2_splat N.bit_and (zip2 N.bit_or xs ys) 8 65408 counted)
-      (none_folded _ (no_pairs xs ys (omega (arith, long, long')) first second).0)
+module _ (xs ys : List ℕ) (long : length xs ≡ 8) (long' : length ys ≡ 8) where
+  masked : zip2 N.bit_and (zip2 N.bit_or xs ys) (N.replicate 8 65408) ≡ map (λ u. N.bit_and u 65408) (zip2 N.bit_or xs ys)
+  masked = N.zip2_splat N.bit_and (zip2 N.bit_or xs ys) 8 65408 (grind (arith, N.length-zip2))
 
-  pub no_quotes : {z : List ℕ} → z ≡ zip2 N.bit_or (map quote_lane xs) (map quote_lane ys) → mask_l (map (top 15) z) % 2 ^ 64 ≡ 0
-  no_quotes is = rw (is, none_set (top 15) _ (no_pairs xs ys (omega (arith, long, long')) first second).1) refl
+  pub both_small : Each1 (Fits N.w16) xs → Each1 (Fits N.w16) ys → N.fold_l N.bit_or 0 (zip2 N.bit_and (zip2 N.bit_or xs ys) (N.replicate 8 65408)) ≡ 0
+      → Each1 (λ u. u < 128) xs × Each1 (λ u. u < 128) ys
+  both_small fits more none = small_pairs xs ys (omega (arith, long, long')) fits more (none_joined 0 _ (rw masked at none)).1
+
+  pub no_high : Each1 (λ u. u < 128) xs → Each1 (λ u. u < 128) ys
+      → N.fold_l N.bit_or 0 (zip2 N.bit_and (zip2 N.bit_or xs ys) (N.replicate 8 65408)) ≡ 0
+  no_high first second = rw masked (none_folded _ (no_pairs xs ys (omega (arith, long, long')) first second))
+
+-- ---- whether sixteen bytes have a quote
+
+quote_bits : (bytes : List ℕ) → map (λ b. top 7 (N.cond (N.eqb b 34) 255 0)) bytes ≡ map (λ b. not (N.is_unquoted b)) bytes
+quote_bits [] = refl
+quote_bits (b ∷ bytes) = let here : top 7 (N.cond (N.eqb b 34) 255 0) ≡ not (N.is_unquoted b) = grind arith in N.ap₂ (λ x xs. x ∷ xs) here (quote_bits bytes)
+
+-- the mask of quotes
+pub quote_mask : (bytes : List ℕ) {z : List ℕ} → length bytes ≡ 16 → z ≡ map (λ b. N.cond (N.eqb b 34) 255 0) bytes
+    → mask_l (map (top 7) z) % 2 ^ 64 ≡ mask_l (map (λ b. not (N.is_unquoted b)) bytes)
+quote_mask bytes long lanes = rw (lanes, N.map-map (top 7) (λ b. N.cond (N.eqb b 34) 255 0) bytes)
+    (N.mask_l-mod (map (λ b. top 7 (N.cond (N.eqb b 34) 255 0)) bytes) 64 (grind (arith, N.length-map)) ∙ ap mask_l (quote_bits bytes))
+
+-- a byte that doesn't fail is one that passes
+pub passes : (bytes : List ℕ) → Each1 (λ b. not (N.is_unquoted b) ≡ false) bytes → Each1 (λ b. N.is_unquoted b ≡ true) bytes
+passes bytes each = N.Each1-weaker _ _ (grind arith) bytes each
+
+pub fails : (bytes : List ℕ) → Each1 (λ b. N.is_unquoted b ≡ true) bytes → Each1 (λ b. not (N.is_unquoted b) ≡ false) bytes
+fails bytes each = N.Each1-weaker _ _ (grind arith) bytes each

@@ -149,6 +149,14 @@ whole_there {bytes} {to} {used} before all whole =
     let emitted = emit rest text bytes in
     x.emits ∙ N.sym (joins_utf16.ends bytes whole ∙ ap (λ l. emitted ++ l) left ∙ N.append-nil emitted)
 
+-- and the text of whole data goes on with that of what is left of them
+pub whole_after : {bytes to : List ℕ} {used made : ℕ} → N.Converts bytes to used made → length bytes % 2 ≡ 0 → used % 2 ≡ 0
+    → text bytes ≡ take made to ++ text (drop used bytes)
+whole_after {bytes} {to} {used} before whole even =
+    let left = drop used bytes in
+    let halves : length left % 2 ≡ 0 = grind (arith, N.length-drop, before.within, whole, even) in
+    grind (arith, joins_utf16.ends bytes whole, joins_utf16.ends left halves, before.leads.emits, before.leads.keeps, N.append_assoc)
+
 -- no whole unit does
 few_held : (xs : List ℕ) → length xs ≤ 1 → rest xs ≡ xs
 few_held = grind arith

@@ -1,5 +1,6 @@
 -- The text of units that are characters of at most three bytes.
 use Rattle.tds_text.proofs as N
+use Rattle.std.proofs.Common.{slice_index_or}
 use N.{is_half, is_long, is_wide, quad_bytes, triples, unit_text, units_text, ◌-◌, refl, chunk, Bool, Each1, Fits, List, [], ap, arith, drop, mask_l, false}
 use N.{get_or, length, map, suc, sym, take, true, w16, zero, ℕ, ◌%◌, ◌*◌, ◌++◌, ◌+◌, ◌/◌, ◌<◌, ◌∙◌, ◌∷◌, ◌≡◌, ◌≤◌, ◌^◌}
 use N.LaneMasks.{first_lanes, first_mask, front_alike, last_lanes, none_set}
@@ -178,6 +179,51 @@ length-units [] = grind arith
 length-units (low ∷ []) = grind arith
 length-units (low ∷ high ∷ xs) = let more = length-units xs in grind arith
 
+-- the bytes at every second place, so many from one on
+abbrev every_second : ℕ → List ℕ → ℕ → List ℕ
+every_second zero zs i = []
+every_second (suc k) zs i = slice_index_or zs i 0 ∷ every_second k zs (suc (suc i))
+
+later_places : (k a b : ℕ) (zs : List ℕ) (i : ℕ) → every_second k (a ∷ b ∷ zs) (suc (suc i)) ≡ every_second k zs i
+later_places zero a b zs i = refl
+later_places (suc k) a b zs i = ap (λ l. slice_index_or zs i 0 ∷ l) (later_places k a b zs (suc (suc i)))
+
+pub evens_at : (k : ℕ) (zs : List ℕ) → length zs ≡ 2 * k → every_second k zs 0 ≡ N.evens zs
+evens_at zero [] long = refl
+evens_at (suc k) (a ∷ b ∷ zs) long = ap (λ l. a ∷ l) (later_places k a b zs 0 ∙ evens_at k zs (omega arith))
+evens_at k zs long = grind arith
+
+-- units below 128 whose low bytes are no quotes are characters of ASCII and no quotes
+plain_bytes : (ys : List ℕ) → Each1 (λ u. u < 128) (units ys) → Each1 (λ b. N.is_unquoted b ≡ true) (N.evens ys) → Each1 (λ u. is_wide u ≡ false) (units ys)
+plain_bytes [] small none = tt
+plain_bytes (low ∷ []) small none = tt
+plain_bytes (low ∷ high ∷ ys) small none = (grind (arith, small.0, none.0), plain_bytes ys small.1 none.1)
+
+bytes_plain : (ys : List ℕ) → Each1 (λ u. is_wide u ≡ false) (units ys) → Each1 (λ u. u < 128) (units ys) × Each1 (λ b. N.is_unquoted b ≡ true) (N.evens ys)
+bytes_plain [] plain = (tt, tt)
+bytes_plain (low ∷ []) plain = (tt, tt)
+bytes_plain (low ∷ high ∷ ys) plain =
+    let more = bytes_plain ys plain.1 in
+    let here : (low + 256 * high < 128) × (N.is_unquoted low ≡ true) = grind (arith, plain.0) in
+    ((here.0, more.0), (here.1, more.1))
+
+-- those of two loads, of which the first has so many
+pub both_plain : (k : ℕ) (xs ys : List ℕ) → length xs ≡ 2 * k → Each1 (λ u. u < 128) (units xs) → Each1 (λ u. u < 128) (units ys)
+    → Each1 (λ b. N.is_unquoted b ≡ true) (N.evens (xs ++ ys)) → Each1 (λ u. is_wide u ≡ false) (units (xs ++ ys))
+both_plain zero [] ys long first second none = plain_bytes ys second none
+both_plain (suc k) (low ∷ high ∷ xs) ys long first second none =
+    (grind (arith, first.0, none.0), both_plain k xs ys (omega arith) first.1 second none.1)
+both_plain k xs ys long first second none = grind arith
+
+pub plain_both : (k : ℕ) (xs ys : List ℕ) → length xs ≡ 2 * k → Each1 (λ u. is_wide u ≡ false) (units (xs ++ ys))
+    → Each1 (λ u. u < 128) (units xs) × Each1 (λ u. u < 128) (units ys) × Each1 (λ b. N.is_unquoted b ≡ true) (N.evens (xs ++ ys))
+plain_both zero [] ys long plain = let both = bytes_plain ys plain in (tt, both.0, both.1)
+plain_both (suc k) (low ∷ high ∷ xs) ys long plain =
+    let more = plain_both k xs ys (omega arith) plain.1 in
+    let here : (low + 256 * high < 128) × (N.is_unquoted low ≡ true) = grind (arith, plain.0) in
+    ((here.0, more.0), more.1, (here.1, more.2))
+plain_both k xs ys long plain = grind arith
+
 -- the first of so many are characters of ASCII, and were written
 pub plain_added : (ys old new kept : List ℕ) {us low : List ℕ} {at : ℕ} (n w : ℕ) → n ≤ w → at ≤ length old → us ≡ units ys
     → take n kept ≡ take n us → Each1 (λ u. is_wide u ≡ false) kept → low ≡ N.evens ys → take (at + w) new ≡ take at old ++ take w low
@@ -200,6 +246,10 @@ leads_front (suc k) (low ∷ high ∷ ys) more few each =
     let two : suc (suc (2 * k)) ≡ 2 * suc k = omega arith in
     rw (← two) (Leads-trans (leads_unit low high (take (2 * k) ys ++ more) each.0) (leads_front k ys more (omega arith) each.1))
 leads_front k ys more few each = grind arith
+
+-- two loads after one another are one
+pub two_chunks : (n m at : ℕ) (bytes : List ℕ) → chunk at n bytes ++ chunk (at + n) m bytes ≡ chunk at (n + m) bytes
+two_chunks n m at bytes = rw (N.take-add n m (drop at bytes), N.drop-drop n at bytes) refl
 
 -- all the bytes are a source of their own
 pub lies_itself : (bytes : List ℕ) → N.LiesIn bytes bytes

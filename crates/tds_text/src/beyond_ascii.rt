@@ -186,13 +186,3 @@ pub(crate) fn put_units(to: &mut [u8], at: usize, lanes: u8x16, n: usize) -> Opt
     }
     Some(put_pairs(to, at, units, wide_units(units), n))
 }
-
-// Writes the text of eight units, which are characters of ASCII and no quotes.
-#[inline(always)]
-pub(crate) fn put_plain(to: &mut [u8], at: usize, lanes: u8x16)
-    requires plain { Each1 (λ u. is_wide u ≡ false) (utf16.units lanes) }
-    requires room { at + UNITS ≤ length to.old }
-    ensures { AddsUnits to.old to.new at (at + UNITS) UNITS (utf16.units lanes) }
-{
-    put_lanes(to, at, low_bytes(lanes), UNITS);
-}

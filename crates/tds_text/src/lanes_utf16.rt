@@ -1,7 +1,7 @@
 // Units of UTF-16, eight at a time.
-ghost use Rattle.std.specs.Prelude.{◌≡◌, ◌^◌, ◌%◌, ◌≤◌, ◌-◌, map, false, take, drop, replicate, true};
+ghost use Rattle.std.specs.Prelude.{◌≡◌, ◌^◌, ◌%◌, ◌<◌, ◌≤◌, ◌-◌, ◌++◌, map, false, take, drop, replicate, true};
 ghost use lib.Lanes.{Each1, mask_l};
-ghost use Rattle.tds_text.specs.Plain.{evens};
+ghost use Rattle.tds_text.specs.Plain.{evens, is_unquoted};
 ghost use Rattle.tds_text.specs.Utf16 as utf16;
 ghost use Rattle.tds_text.specs.Wide.{is_long, is_half, is_other, is_wide};
 
@@ -76,17 +76,45 @@ pub(crate) fn are_plain(units: u16x8) -> bool
     units.simd_eq(u16x8::splat(0x22)).to_bitmask() == 0
 }
 
-// Whether each of eight units and eight others is a character of ASCII, and none is a quote.
+// Whether each of eight units and eight others is a character of ASCII.
 #[inline(always)]
-pub(crate) fn are_both_plain(first: u16x8, second: u16x8) -> bool
-    ensures plain { result ≡ true → Each1 (λ u. is_wide u ≡ false) first × Each1 (λ u. is_wide u ≡ false) second }
-    ensures other { result ≡ false → Each1 (λ u. is_wide u ≡ false) first → Each1 (λ u. is_wide u ≡ false) second → ⊥ }
+fn are_ascii(first: u16x8, second: u16x8) -> bool
+    ensures small { result ≡ true → Each1 (λ u. u < 128) first × Each1 (λ u. u < 128) second }
+    ensures other { result ≡ false → Each1 (λ u. u < 128) first → Each1 (λ u. u < 128) second → ⊥ }
 {
-    if ((first | second) & u16x8::splat(0xFF80)).reduce_or() != 0 {
+    ((first | second) & u16x8::splat(0xFF80)).reduce_or() == 0
+}
+
+// The low bytes of eight units and of eight others.
+#[inline(always)]
+pub(crate) fn all_low_bytes(first: u8x16, second: u8x16) -> u8x16
+    ensures { result ≡ evens (first ++ second) }
+{
+    first.shuffle(
+        second,
+        [0, 2, 4, 6, 8, 10, 12, 14, 16, 18, 20, 22, 24, 26, 28, 30],
+    )
+}
+
+// Whether one of sixteen bytes is a quote.
+#[inline(always)]
+fn has_quote(bytes: u8x16) -> bool
+    ensures none { result ≡ false → Each1 (λ b. is_unquoted b ≡ true) bytes }
+    ensures other { result ≡ true → Each1 (λ b. is_unquoted b ≡ true) bytes → ⊥ }
+{
+    bytes.simd_eq(u8x16::splat(0x22)).to_bitmask() != 0
+}
+
+// Whether each of the sixteen units of two loads is a character of ASCII, and none is a quote: their low bytes are their text then.
+#[inline(always)]
+pub(crate) fn are_all_plain(first: u8x16, second: u8x16) -> bool
+    ensures plain { result ≡ true → Each1 (λ u. is_wide u ≡ false) (utf16.units (first ++ second)) }
+    ensures other { result ≡ false → Each1 (λ u. is_wide u ≡ false) (utf16.units (first ++ second)) → ⊥ }
+{
+    if !are_ascii(units_of(first), units_of(second)) {
         return false;
     }
-    let quotes = first.simd_eq(u16x8::splat(0x22)) | second.simd_eq(u16x8::splat(0x22));
-    quotes.to_bitmask() == 0
+    !has_quote(all_low_bytes(first, second))
 }
 
 // Which of eight units have a text of fewer than three bytes, or are surrogates, the first by the lowest bit.

@@ -1,4 +1,5 @@
-// The field of text at the end of the room: text of ASCII, for which there is a byte for each character and a few more.
+// The field of text at the end of the room: text of ASCII without quotes, for which there is a byte for each character and a few more.
+// Text in UTF-16 may end with other characters, if there is room for any.
 ghost use Rattle.std.specs.Prelude.{◌≡◌, ◌+◌, ◌*◌, ◌/◌, ◌%◌, ◌≤◌, length, take, true, IfSome, Some};
 ghost use Rattle.tds_text.specs.Conversion.{Utf16Text, Utf8Text, Windows1252Text};
 ghost use Rattle.tds_text.specs.Fields.{FieldWritten, conversion_of};
@@ -10,14 +11,15 @@ use crate::encode::{put_lanes, take_plain};
 use crate::fields::{Content, close_quoted};
 use crate::framing::QUOTE;
 use crate::lanes::{LANES, WIDE, wide_stops};
-use crate::lanes_utf16::{MANY_UNITS, UNITS, are_both_plain, units_of};
-use crate::utf16::convert_plain;
+use crate::lanes_utf16::{MANY_UNITS, UNITS, are_all_plain};
+use crate::utf16::{convert_plain, convert_whole};
 use std::simd::prelude::*;
 
 // How many bytes of room such a field wants besides one for each character.
 const SPARE: usize = 50;
 
-// Writes the text of whole data in UTF-16, if its first units are characters of ASCII and no quotes, and those after the first 15 too.
+// Writes the text of whole data in UTF-16, if its first sixteen units are characters of ASCII and no quotes, and the others too, up to
+// where there is room for any text of those that are left.
 #[inline(always)]
 fn convert_utf16(bytes: &[u8], to: &mut [u8]) -> Option<usize>
     requires many { WIDE ≤ length bytes.now }
@@ -26,19 +28,21 @@ fn convert_utf16(bytes: &[u8], to: &mut [u8]) -> Option<usize>
     ensures most { IfSome result (λ made. made + 3 ≤ length to.old) }
     ensures text { IfSome result (λ made. take made to.new ≡ utf16.text bytes.now) }
 {
-    let front = units_of(u8x16::from_slice(bytes));
-    if !are_both_plain(front, units_of(u8x16::from_slice(&bytes[LANES..]))) {
+    let front = u8x16::from_slice(bytes);
+    let next = u8x16::from_slice(&bytes[LANES..]);
+    if !are_all_plain(front, next) {
         return None;
     }
     let few = bytes.len() / 2 % MANY_UNITS;
     let some = few % UNITS;
-    let first = put_units(to, 0, u8x16::from_slice(bytes), some)?;
+    let first = put_units(to, 0, front, some)?;
     let second = put_units(to, first, u8x16::from_slice(&bytes[2 * some..]), few - some)?;
     let run = convert_plain(bytes, 2 * few, bytes.len(), to, second);
-    if run.used < bytes.len() {
+    let (rest, room) = (&bytes[run.used..], &mut to[run.made..]);
+    if rest.len() + rest.len() / 2 + LANES > room.len() {
         return None;
     }
-    Some(run.made)
+    Some(run.made + convert_whole(rest, rest, room))
 }
 
 // Writes text in UTF-16, the first `n` of these bytes, as a field.
@@ -114,7 +118,7 @@ fn write_bytes(source: &[u8], n: usize, to: &mut [u8]) -> Option<usize>
 }
 
 /// Writes the field of a whole value as [`write_field`](crate::write_field) does, for which there isn't the room that any text
-/// may want. `None` for data other than text of ASCII without quotes, and if that doesn't fit either.
+/// may want. `None` for data other than such text, and if that doesn't fit either.
 #[inline(never)]
 pub(crate) fn write_tight(content: Content, source: &[u8], n: usize, to: &mut [u8]) -> Option<usize>
     requires within { n ≤ length source.now }

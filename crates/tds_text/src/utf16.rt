@@ -9,10 +9,12 @@ ghost use Rattle.tds_text.specs.Utf16 as utf16;
 ghost use Rattle.tds_text.specs.Wide.{is_wide};
 ghost use Rattle.tds_text.specs.Utf16Next.{Converts, ConvertsIn, IsCharacter, IsNext, LeavesRest};
 
-use crate::beyond_ascii::{put_plain, put_units};
-use crate::encode::put_quoted;
+use crate::beyond_ascii::put_units;
+use crate::encode::{put_lanes, put_quoted};
 use crate::lanes::{LANES, WIDE, first_set};
-use crate::lanes_utf16::{MANY_UNITS, UNITS, are_both_plain, surrogate_units, units_of};
+use crate::lanes_utf16::{
+    MANY_UNITS, UNITS, all_low_bytes, are_all_plain, surrogate_units, units_of,
+};
 use std::simd::prelude::*;
 use tds_values::Span;
 
@@ -137,19 +139,22 @@ pub fn convert_plain(bytes: &[u8], from: usize, end: usize, to: &mut [u8], start
     ensures within { (from ≤ result.used) × (result.used ≤ end) }
     ensures single { result.used + 2 * start ≡ from + 2 * result.made }
     ensures after { Converts bytes.now to.new result.used result.made }
-    ensures ends { result.used + 32 ≤ end → Each1 (λ u. is_wide u ≡ false) (utf16.units (chunk result.used 16 bytes.now)) →
-        Each1 (λ u. is_wide u ≡ false) (utf16.units (chunk (result.used + 16) 16 bytes.now)) → ⊥ }
+    ensures ends { result.used + 32 ≤ end →
+        Each1 (λ u. is_wide u ≡ false) (utf16.units (chunk result.used 32 bytes.now)) → ⊥ }
 {
     let mut at = from;
     let mut made = start;
-    while end - at >= WIDE {
+    if end - from < WIDE {
+        return Span { used: at, made };
+    }
+    let last = end - WIDE;
+    while at <= last {
         let first = u8x16::from_slice(&bytes[at..]);
         let second = u8x16::from_slice(&bytes[at + LANES..]);
-        if !are_both_plain(units_of(first), units_of(second)) {
+        if !are_all_plain(first, second) {
             break;
         }
-        put_plain(to, made, first);
-        put_plain(to, made + UNITS, second);
+        put_lanes(to, made, all_low_bytes(first, second), MANY_UNITS);
         at += WIDE;
         made += MANY_UNITS;
     }

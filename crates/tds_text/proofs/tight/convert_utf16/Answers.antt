@@ -1,6 +1,7 @@
 use Rattle.tds_text.proofs as N
 use N.tight.convert_utf16.Goals as goal
-use N.{◌≡◌, ◌+◌, ◌-◌, ◌*◌, ◌/◌, ◌%◌, length}
+use N.{◌≡◌, ◌∙◌, ◌≤◌, ◌++◌, ◌+◌, ◌-◌, ◌*◌, ◌/◌, ◌%◌, ℕ, List, length, take}
+use borrow.Rule.Slice.PartMut.{put_mid}
 use N.WideText.{lies_itself, none_converted, units_more}
 
 pub convert_plain-run-requires-clause-before : goal.convert_plain-run-requires-clause-before
@@ -17,5 +18,15 @@ convert_plain-run-requires-clause-before c =
     rw all at (units_more {at = 2 * some} {made = c.in_ok-first.first} (few - some) 8 (lies_itself bytes) (omega N.arith) (omega N.arith) second.single
     (omega N.arith) second.most second.written begun)
 
+-- a text and more after it
+take_put : (a k n : ℕ) (xs ys : List ℕ) → a ≤ length xs → n ≤ length ys → take a xs ++ take n ys ≡ take (a + n) (put_mid a k xs ys)
+take_put a k n xs ys within few = grind (N.arith, N.length-take-le, N.take-append-add, N.take-append-le)
+
 pub returns-clause-text : goal.returns-clause-text
-returns-clause-text c = N.Utf16Steps.whole_there c.convert_plain-run.ensures.after (omega N.arith) c.requires.whole
+returns-clause-text c =
+    let run = c.convert_plain-run in
+    let to = run.new.to in
+    let more = rw (N.UsualText.rest_of) at c.convert_whole.ensures.text in
+    let all = N.Utf16Steps.whole_after run.ensures.after c.requires.whole (omega N.arith) in
+    let joined = take_put run.result.made (length to - run.result.made) c.convert_whole.result to c.convert_whole.new.to (omega N.arith) (omega N.arith) in
+    N.sym joined ∙ N.ap (λ l. take run.result.made to ++ l) more ∙ N.sym all

@@ -1,0 +1,19 @@
+use Rattle.tds_text.proofs as N
+use N.lanes_utf16.are_all_plain.Goals as goal
+use N.WideText.{both_plain, plain_both}
+
+pub returns-then-not-are_ascii-clause-other : goal.returns-then-not-are_ascii-clause-other
+returns-then-not-are_ascii-clause-other c = λ _ plain.
+    let parts = plain_both 8 c.args.first c.args.second c.fits-first.0 plain in
+    c.are_ascii.ensures.other (grind (N.arith, c.if-not-are_ascii.true)) (rw c.units_of.ensures parts.0) (rw c.units_of-2.ensures parts.1)
+
+pub returns-clause-plain : goal.returns-clause-plain
+returns-clause-plain c = λ none.
+    let small = rw (c.units_of.ensures, c.units_of-2.ensures) at (c.are_ascii.ensures.small (grind (N.arith, c.if-not-are_ascii.false))) in
+    both_plain 8 c.args.first c.args.second c.fits-first.0 small.0 small.1 (rw c.all_low_bytes.ensures at
+    (c.has_quote.ensures.none (grind (N.arith, none))))
+
+pub returns-clause-other : goal.returns-clause-other
+returns-clause-other c = λ some plain.
+    let parts = plain_both 8 c.args.first c.args.second c.fits-first.0 plain in
+    c.has_quote.ensures.other (grind (N.arith, some)) (rw c.all_low_bytes.ensures parts.2)
