@@ -18,8 +18,8 @@ use tds_text::utf16::{character_at, convert, convert_plain};
 /// How many bytes the text of a chunk has at most, and as many as are written at once.
 const TEXT: usize = 3 * CHUNK / 2 + LANES;
 
-// The least room that a long piece is tried for whose first units are characters of ASCII.
-const MUCH_ROOM: usize = 1024;
+// The least room in which characters of ASCII are tried at the front of a piece whose text may want more.
+const MUCH_ROOM: usize = 256;
 
 /// Text in UTF-16, low byte first.
 #[derive(Drop)]
@@ -61,15 +61,15 @@ fn put_chunk<W: Write>(bytes: &[u8], source: &[u8], sink: &mut Sink<'_, W>) -> R
     Ok(done.used)
 }
 
-// Puts the text of the first units of a long piece, as long as they are characters of ASCII and no quotes and have room in the block, and
-// returns how many bytes they have. It delivers nothing.
-fn put_plain<W: Write>(bytes: &[u8], sink: &mut Sink<'_, W>) -> usize
+// Puts the text of the first units of a piece whose text may want more room than the block has, as long as they are characters of
+// ASCII and no quotes and have room, and returns how many bytes they have. It delivers nothing, and puts none unless they are `likely`.
+fn put_plain<W: Write>(bytes: &[u8], likely: bool, sink: &mut Sink<'_, W>) -> usize
     requires { IsWriting sink.old }
     ensures within { result ≤ length bytes.now }
     ensures puts { (put : List ℕ) × PutsPiece {U = Unit {0}} W.contents sink.old sink.new put (Ok tt)
         × Leads utf16.rest utf16.text bytes.now (drop result bytes.now) put }
 {
-    if bytes.len() <= sink.room() || sink.room() < MUCH_ROOM {
+    if sink.room() < MUCH_ROOM || bytes.len() + bytes.len() / 2 + LANES < sink.room() || !likely {
         return 0;
     }
     let waiting = sink.waiting() as usize;
@@ -88,8 +88,11 @@ fn put_from<W: Write>(bytes: &[u8], from: usize, sink: &mut Sink<'_, W>) -> Resu
     ensures used { IfOk result (λ at. LeavesRest bytes.now from at) }
 {
     let mut at = from;
+    let mut likely = true;
     loop {
-        at += put_plain(&bytes[at..], sink);
+        let plain = put_plain(&bytes[at..], likely, sink);
+        likely = plain > 0;
+        at += plain;
         let units = units_within(sink.room(), CHUNK / 2);
         let end = bytes.len().min(at + 2 * units);
         at += put_chunk(&bytes[at..end], &bytes[at..], sink)?;

@@ -15,5 +15,5 @@ returns-clause-puts g c =
       done.ensures.after.leads,
     )
 
-pub returns-then-bytes-room-clause-puts : goal.returns-then-bytes-room-clause-puts
-returns-then-bytes-room-clause-puts g c = ([], N.Puttings.PutsPiece-none _ _ tt c.requires, T.JoiningLemmas.Leads-none)
+pub returns-then-room-lt-MUCH_ROOM-clause-puts : goal.returns-then-room-lt-MUCH_ROOM-clause-puts
+returns-then-room-lt-MUCH_ROOM-clause-puts g c = ([], N.Puttings.PutsPiece-none _ _ tt c.requires, T.JoiningLemmas.Leads-none)
