@@ -156,6 +156,7 @@ impl<'r, 't, 'p, 's, 'c, R: Read, W: Write> Rows<'r, 't, 'p, 's, 'c, R, W> {
 impl<'r, 't, 'p, 's, 'c, R: Read, W: Write> Rows<'r, 't, 'p, 's, 'c, R, W> {
     // Reads the next cells, as many as are NULL by a bit or whole in the packet and have room in the block, over the ends of ROWs,
     // puts their text where it waits, and steps over them. Returns how many rows it began. It reads nothing and delivers nothing.
+    #[inline(always)]
     fn put_within(&mut self, at: &mut Cursor<'c>, nulls: Nulls) -> u64
         requires in_row { AwaitsRows self.old.payload.now self.old.sink.now self.old.small.now }
         requires some { 0 < self.old.row_format.now.count }
