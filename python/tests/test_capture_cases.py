@@ -77,7 +77,7 @@ def read(data: bytes) -> Read:
     except files.CutShort as cut:
         desk.told.append(str(cut))
     connections.finish()
-    desk.told += list(accounts.unread) + ["lost frames"] * bool(drops.total())
+    desk.told += list(accounts.unread) + ["lost frames"] * bool(drops.total()) + ["unknown blocks"] * bool(drops.unknown)
     desk.told += ["cut frames"] * bool(connections.cut) + ["no connection"] * (not accounts.connections)
     return Read(desk.answers, desk.told, accounts, desk.words)
 

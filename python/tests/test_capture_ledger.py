@@ -138,6 +138,28 @@ class Shown(unittest.TestCase):
             came = read(pcapng(frames, b"", b"", lost))
             self.assertEqual((came.answers, came.told), ([answer(1)], ["lost frames"] * is_told), lost)
 
+    def test_damaged_blocks(self) -> None:
+        """Whichever bit of a block's type or of its two lengths is another one, and however many blocks the first length takes in: all answers
+        come, or something is told."""
+        data = pcapng(Talk().open().exchange(1).frames() + Talk(50001).open().exchange(2).frames(), b"", b"")
+        ends = [0]
+        while ends[-1] < len(data):
+            ends.append(ends[-1] + struct.unpack_from("<I", data, ends[-1] + 4)[0])
+        blocks = list(zip(ends, ends[1:]))
+        changes = [(at, data[at] ^ 1 << bit) for start, end in blocks for at in (*range(start, start + 8), *range(end - 4, end)) for bit in range(8)]
+        damaged = [data[:at] + bytes([byte]) + data[at + 1:] for at, byte in changes if at >= 4]  # the first four tell that it is a capture
+        damaged += [data[:start + 4] + struct.pack("<I", end - start) + data[start + 8:] for start, _ in blocks for end in ends if end > start + 8]
+        for it in (data, *damaged):
+            came = read(it)
+            self.assertTrue(came.told or came.answers == [answer(1), answer(2)], it)
+
+    def test_blocks_of_other_types(self) -> None:
+        """Those that may have a frame are told."""
+        frames = Talk().open().exchange(1).frames()
+        for kind in (0, 4, 7, 10, 11, 0x0BAD, 0x40000BAD, 0x0201, 0x80000001):
+            came = read(pcapng(frames, b"", b"") + block(kind, bytes(40)))
+            self.assertEqual((came.answers, came.told), ([answer(1)], ["unknown blocks"] * (kind in (0, 11, 0x0201, 0x80000001))), kind)
+
     def test_a_copy_that_differs_of_what_was_acknowledged_before_it_came(self) -> None:
         """Which copy was received isn't known of a segment that comes after its acknowledgement, whatever an earlier one says behind it; of one
         that comes before it no copy counts."""

@@ -15,6 +15,8 @@ PCAP = {  # by the first bytes: the order of bytes, and the units of time in a s
 PCAPNG = b"\x0A\x0D\x0D\x0A"
 ORDERS = {b"\x4D\x3C\x2B\x1A": "<", b"\x1A\x2B\x3C\x4D": ">"}
 SECTION, INTERFACE, OLD_PACKET, SIMPLE_PACKET, STATISTICS, PACKET = 0x0A0D0D0A, 1, 2, 3, 5, 6  # types of blocks of pcapng
+# Others that have no frame: names, times of IRIG, AFDX, a journal of systemd, secrets, and blocks of their makers' own.
+WITHOUT_FRAMES = (SECTION, INTERFACE, STATISTICS, 4, 7, 8, 9, 10, 0x0BAD, 0x40000BAD)
 RESOLUTION, OFFSET = 9, 14  # options of an interface: units of time in a second, seconds to add
 DROPPED_BEFORE = 4  # an option of a packet: frames that were lost before it (epb_dropcount)
 DROPPED = (5, 7)  # options of statistics: frames lost so far by the interface (isb_ifdrop) and by the system (isb_osdrop)
@@ -97,9 +99,11 @@ def is_capture(head: bytes) -> bool:
 
 
 class Drops:
-    """The frames that a capture says it has lost, of each interface: as statistics count them, and as packets do."""
+    """The frames that a capture says it has lost, of each interface: as statistics count them, and as packets do; and its blocks of types
+    that aren't known, which may be frames."""
 
     def __init__(self) -> None:
+        self.unknown = 0  #: blocks
         self._ended = 0  # of the sections before
         self._counted: dict[int, int] = {}
         self._before: dict[int, int] = {}
@@ -183,9 +187,12 @@ def _pcapng(source: Source, drops: Drops) -> Iterator[Frame]:
             drops.end_section()
             head += mark
         kind, length = struct.unpack_from(order + "II", head)
-        if not 12 <= length <= MOST_OF_A_BLOCK or length % 4:
+        if not len(head) + 4 <= length <= MOST_OF_A_BLOCK or length % 4:
             raise CutShort(f"the capture goes on with what is no block: {length} bytes")
-        body = _need(source, length - len(head), "a block")[:-4]
+        body = _need(source, length - len(head), "a block")
+        if struct.unpack(order + "I", body[-4:]) != (length,):
+            raise CutShort("the capture goes on with a block that has another length at its end")
+        body = body[:-4]
         if kind == INTERFACE:
             interfaces.append(_interface(order, body))
         elif kind in (PACKET, SIMPLE_PACKET, OLD_PACKET):
@@ -198,6 +205,8 @@ def _pcapng(source: Source, drops: Drops) -> Iterator[Frame]:
         elif kind == STATISTICS and len(body) >= 12:
             found = [struct.unpack(order + "Q", value)[0] for option, value in _options(order, body, 12) if option in DROPPED and len(value) == 8]
             drops.count(struct.unpack_from(order + "I", body)[0], sum(it for it in found if it != UNKNOWN))
+        elif kind not in WITHOUT_FRAMES:
+            drops.unknown += 1
 
 
 def _count_before(order: str, kind: int, body: bytes, captured: int, drops: Drops) -> None:

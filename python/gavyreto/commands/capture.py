@@ -209,6 +209,8 @@ def take_capture(source: files.Source, export: Export, accounts: Accounts, ports
             export.note(f"{count} frames aren't read: {reason}", status)
     if drops.total():
         export.note(f"{drops.total()} frames were lost while they were captured, as the capture itself counts them", BAD_INPUT)
+    if drops.unknown:
+        export.note(f"{drops.unknown} blocks of the capture aren't read: their types aren't known", BAD_INPUT)
     if connections.cut:
         export.note(f"{connections.cut} frames weren't captured whole: `tcpdump -s 0` keeps all of them", BAD_INPUT)
     others = ", ".join(str(port) for port, _ in connections.others.most_common())
