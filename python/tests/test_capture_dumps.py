@@ -2,6 +2,7 @@
 from __future__ import annotations
 
 import io
+import itertools
 import struct
 import unittest
 
@@ -109,6 +110,17 @@ class Dumps(unittest.TestCase):
                 self.assertTrue(all(it in (first, second) for it in came.answers))
                 self.assertTrue(came.told or sorted(came.answers) == sorted([first, second]), came)
                 self.assertTrue(came.accounts.meets())
+
+    def test_packets_of_a_client_that_ask_nothing(self) -> None:
+        """Of each type, before a login, between it and a statement, and behind the last answer: what is in no request is told too."""
+        one, first = exchange(51, 1)
+        for kind, place in itertools.product(range(256), (0, 3, 7)):
+            lines = [*login(51), *one]
+            lines.insert(place, (False, packets(kind, b"what is this", SIZE, 51 if place else 0)))
+            came = read(dumped(lines))
+            is_joined = kind in (0x10, 0x11, 0x12, 8) and place < 7  # several messages of a login have one answer
+            with self.subTest(kind=kind, place=place):
+                self.assertTrue(came.told or is_joined and came.answers == [first], came)
 
     def test_packets_that_are_lacking(self) -> None:
         """Whichever it is: the answer is whole, or something is told."""

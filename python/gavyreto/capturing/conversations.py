@@ -307,8 +307,8 @@ class Conversation:
                 found.append(f"{stream.differing} bytes of the {name} came again with other values: those that came first count")
             if stream.early:
                 found.append(f"{stream.early} bytes of the {name} came too late to be compared")
-        if self._requests.unfinished() and not self._answers.is_over:
-            found.append(f"{self._requests.unfinished()} bytes of the client are in no request")
+        if (complaint := self._requests.complaint()) and not self._answers.is_over:
+            found.append(complaint)
         return found
 
     def ended(self) -> tuple[Side, Side]:

@@ -55,7 +55,7 @@ class _Connection:
     def __init__(self, desk: Desk, accounts: Accounts) -> None:
         self.answers = Answers(Sides(), desk, accounts, is_numbered=True)
         self.answers.is_client_known = True
-        self._requests = Requests()
+        self._desk, self._requests = desk, Requests()
         self._place, self._asked = 0, 0  # of the next byte of the server, and of the client
         accounts.connections += 1
 
@@ -82,6 +82,12 @@ class _Connection:
                 raise Mixed(f"line {packet.line}: a request before the end of the answer to the one before it")
             self.answers.request(request)
 
+    def finish(self) -> None:
+        """Nothing more comes."""
+        self.answers.finish()
+        if (complaint := self._requests.complaint()) and not self.answers.is_over:
+            self._desk.tell(Sides(), 0, complaint)
+
     def _may_ask(self, kind: Asked) -> bool:
         """An attention may come at any time, and a login after the last message of TLS's handshake."""
         before = self.answers.pending.last()
@@ -107,10 +113,10 @@ class Dump:
         """The connection of a packet. Up to its login a connection has no SPID; a client may write none later either."""
         connections, new = self._connections, self._connections.get(0)
         if not packet.is_received and packet.data[0] == PacketType.PRELOGIN and not is_record(packet.data[tds.HEADER:]) and new and new.is_idle():
-            connections.pop(0).answers.finish()
+            connections.pop(0).finish()
         elif channel and packet.is_received and new and new.is_waiting() and (channel not in connections or connections[channel].is_idle()):
             if channel in connections:
-                connections[channel].answers.finish()
+                connections[channel].finish()
             connections[channel] = connections.pop(0)
         elif not channel and not new and not packet.is_received and packet.data[0] != PacketType.PRELOGIN and connections:
             return self._only(packet)
@@ -127,7 +133,7 @@ class Dump:
     def finish(self) -> None:
         """Nothing more comes."""
         for connection in self._connections.values():
-            connection.answers.finish()
+            connection.finish()
 
 
 def take_packets(first: Dumped, others: Iterable[Dumped], desk: Desk, accounts: Accounts) -> None:

@@ -97,9 +97,10 @@ class Requests:
         """Whether no message is under way."""
         return not self._waiting and not self._left and self.open is None
 
-    def unfinished(self) -> int:
-        """Bytes in no message, those of a header that isn't whole among them."""
-        return self.strange + len(self._waiting)
+    def complaint(self) -> str:
+        """What there is to say of bytes in no message, those of a header that isn't whole among them; "" if there are none."""
+        strange = self.strange + len(self._waiting)
+        return f"{strange} bytes of the client are in no request" if strange else ""
 
     def take(self, piece: Piece) -> list[Request]:
         """The messages that begin in a piece."""
