@@ -8,7 +8,7 @@ import sys
 import threading
 from functools import partial
 from itertools import chain, islice, repeat
-from operator import length_hint
+from operator import index, length_hint
 from typing import Any, Callable, Iterator, NamedTuple, NoReturn, Optional, Sequence, TypeVar, Union, cast
 
 from gavyreto.columns import FLOATS, Column
@@ -221,7 +221,8 @@ class Opened(Single, io.IOBase):
 
     def read(self, size: Optional[int] = -1) -> Any:
         """So much, or less at the end; all of it without a size."""
-        return self._sets._guarded(partial(self._much, sys.maxsize if size is None or size < 0 else size))
+        most = sys.maxsize if size is None or size < 0 else index(size)
+        return self._sets._guarded(partial(self._much, most))
 
     def _much(self, most: int) -> Any:
         taken = []
@@ -258,7 +259,8 @@ class ValueFile(Opened, io.BufferedIOBase):
 
     def read1(self, size: int = -1) -> bytes:
         """The next bytes, at least one and at most so many, or none at the end."""
-        return self._sets._guarded(lambda: bytes(self._some(size if size > 0 else BLOCK)))
+        most = BLOCK if size < 0 else index(size)
+        return self._sets._guarded(lambda: bytes(self._some(most)))
 
 
 class TextFile(Opened, io.TextIOBase):
@@ -310,7 +312,8 @@ class ResultSet(Single):
     def fetchmany(self, size: Optional[int] = None) -> list[Row]:
         """The next rows: so many, or `arraysize` without a number, and fewer at the end alone (PEP 249): an error is raised in place of fewer
         rows, which are left. Raises ValueError for a number below 0."""
-        return self._sets._guarded(lambda: self._many(self.arraysize if size is None else size))
+        count = min(index(self.arraysize if size is None else size), sys.maxsize)
+        return self._sets._guarded(lambda: self._many(count))
 
     def _many(self, size: int) -> list[Row]:
         self._gathered(size)
@@ -362,7 +365,7 @@ class ResultSet(Single):
     def batches(self, size: int) -> Iterator[Columns]:
         """The rows by columns: a list for each column, with so many values each time, and fewer at the end alone, as `fetchmany` gives
         them. Raises ValueError if the size is less than 1."""
-        if size < 1:
+        if index(size) < 1:
             raise ValueError(f"a batch has at least 1 row, not {size}")
         return iter(lambda: self._sets._guarded(lambda: self._batch(size)), [])
 
@@ -409,12 +412,12 @@ class ResultSet(Single):
 
         Raises StopIteration after the last row, and ValueError if the value has neither bytes nor text, or the file before
         isn't closed."""
-        return self._sets._guarded(lambda: self._open(column))
-
-    def _open(self, column: Union[int, str]) -> Union[None, io.BytesIO, io.StringIO, ValueFile, TextFile]:
         place = self.names.index(column) if isinstance(column, str) else range(len(self.names))[column]
+        return self._sets._guarded(lambda: self._open(place))
+
+    def _open(self, place: int) -> Union[None, io.BytesIO, io.StringIO, ValueFile, TextFile]:
         if length_hint(self._first):
-            return _file_of(next(self)[place])
+            return _file_of(self._next()[place])
         self._check_passed_over()
         field = None if self._is_over else self._sets._open_row(place, self._is_only)
         if field is None:
@@ -509,8 +512,8 @@ class Sets(Single):
     """An iterator over result sets, and a context that closes what it reads from.
 
     A reading is open, ended, failed or closed. After an error each further call raises that error again, and `Interrupted` after an
-    exception from elsewhere, as that of Ctrl-C; after `close` before the end it raises ValueError. A second thread that reads at the
-    same time gets a ValueError, and so does a process that is forked off."""
+    exception from elsewhere, as that of Ctrl-C; after `close` before the end it raises ValueError. What reads within another call, as a
+    second thread or the handler of a signal, gets a ValueError, and so does a process that is forked off."""
 
     def __init__(self, read: Read, dates: Dates, descriptions: Optional[Descriptions] = None, adapts: bool = False) -> None:
         self.sets = 0  #: handed out so far
@@ -522,7 +525,7 @@ class Sets(Single):
         self._failure: Optional[BaseException] = None
         self._kept: Optional[BaseException] = None  # what came where all rows had come, which are there again
         self._is_closed = self._is_ended = self._is_only = False  # only: whether there may be one set alone
-        self._lock, self._process = threading.RLock(), os.getpid()
+        self._lock, self._process, self._is_called = threading.RLock(), os.getpid(), False
 
     def _floats_of(self, place: int) -> list[bool]:
         """Which columns of a set have texts of floats; nothing if none has."""
@@ -566,18 +569,22 @@ class Sets(Single):
             raise ValueError("the value that was opened before isn't closed")
 
     def _guarded(self, call: Callable[[], T]) -> T:
-        """What a call gives, within which one thread reads. Another one is refused meanwhile, and so is a process that was forked off; what
-        ends it from elsewhere ends the reading, up to the return: what it would have given is lost."""
+        """What a call gives, within which nothing else reads: neither another thread nor, in this one, what comes between, as the handler of
+        a signal; nor a process that was forked off. What ends it from elsewhere ends the reading, up to the return: what it would have given
+        is lost."""
         if os.getpid() != self._process:
             raise ValueError("another process reads from here")
-        if not self._lock.acquire(blocking=False):
-            raise ValueError("another thread reads from here")
+        if self._is_called or not self._lock.acquire(blocking=False):
+            raise ValueError("another call reads from here")
         try:
             try:
+                self._is_called = True
                 return call()
             finally:
+                self._is_called = False
                 self._lock.release()
         except BaseException as failure:
+            self._is_called = False
             self._end_by(failure)
             raise
 
@@ -623,9 +630,7 @@ class Sets(Single):
             self._raise(NotOneSet(SEVERAL))
 
     def _step(self, step: Callable[[], T]) -> T:
-        return self._guarded(lambda: self._stepped(step))
-
-    def _stepped(self, step: Callable[[], T]) -> T:
+        """What a step of the parser gives."""
         if self._failure:
             self._raise(self._failure)
         if self._is_closed and not self._is_ended:
@@ -659,11 +664,11 @@ class Sets(Single):
         raise failure
 
     def _end_by(self, failure: BaseException) -> None:
-        """What an exception means that came while rows were read: one from elsewhere, as of a signal's handler, makes the reading a failed one."""
-        place = failure.__traceback__
-        while place and place.tb_next and not self._failure:
-            place = place.tb_next
-        is_own = place and place.tb_frame.f_globals is globals() and isinstance(failure, (Error, StopIteration, GeneratorExit, ValueError))
+        """What an exception means that came while rows were read: one that passed through elsewhere, as through a signal's handler, makes the
+        reading a failed one."""
+        place, is_own = failure.__traceback__, isinstance(failure, (Error, StopIteration, GeneratorExit, ValueError))
+        while place and is_own and not self._failure:
+            is_own, place = place.tb_frame.f_globals is globals(), place.tb_next
         if not self._failure and not is_own and failure is not self._kept:
             self._failure = Interrupted(f"the reading was ended by {type(failure).__name__}: rows may be missing")
             self._failure.sets, self._failure.rows = self.sets, self.rows

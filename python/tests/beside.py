@@ -102,9 +102,9 @@ def running_in(folder: str) -> list[str]:
     return found
 
 
-def interrupted(at: int, call: Callable[[], object], raised: BaseException = KeyboardInterrupt()) -> bool:
-    """Makes a call, to which an interrupt, or what the handler of another signal raises, comes at a line of the package, by its number, if
-    there are so many. Returns whether one came."""
+def meanwhile(at: int, call: Callable[[], object], come: Callable[[], object]) -> bool:
+    """Makes a call, and another one at a line of the package within it, by its number, if there are so many, as the handler of a signal
+    does. Returns whether it came."""
     steps = 0
 
     def step(frame: Any, event: str, _: object) -> Any:
@@ -113,7 +113,7 @@ def interrupted(at: int, call: Callable[[], object], raised: BaseException = Key
             return step
         steps += 1
         if steps == at:
-            raise raised
+            come()
         return step
 
     before = sys.gettrace()
@@ -121,12 +121,24 @@ def interrupted(at: int, call: Callable[[], object], raised: BaseException = Key
         sys.settrace(step)
         try:
             call()
-        except (type(raised), Interrupted, MalformedText):
-            pass
         finally:
             sys.settrace(before)
-            raised.__traceback__ = None
     return steps >= at
+
+
+def interrupted(at: int, call: Callable[[], object], raised: BaseException = KeyboardInterrupt()) -> bool:
+    """Makes a call, to which an interrupt, or what the handler of another signal raises, comes at a line of the package. Returns whether one
+    came."""
+    def come() -> None:
+        nonlocal is_come
+        is_come = True
+        raise raised
+
+    is_come = False
+    with contextlib.suppress(type(raised), Interrupted, MalformedText):
+        meanwhile(at, call, come)
+    raised.__traceback__ = None
+    return is_come
 
 
 class StandIn:

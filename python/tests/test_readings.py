@@ -23,7 +23,9 @@ import gavyreto
 from gavyreto import tds
 from gavyreto.connection import Channel, Server
 from gavyreto.text import Sets
-from tests.beside import PROGRAM, SECONDS, Live, answered, context_of, interrupted, listening, log_in, log_in_encrypted, responses, saying_goodbye, served, serving, wire
+from tests.beside import (
+    PROGRAM, SECONDS, Live, answered, context_of, interrupted, listening, log_in, log_in_encrypted, meanwhile, responses, saying_goodbye, served, serving, wire,
+)
 
 ORDERED = answered(*responses.order_rows(0), served.done())
 UNASKED = "the server sent bytes that weren't asked for"
@@ -230,11 +232,69 @@ class Rows(unittest.TestCase):
         begun.wait(SECONDS)
         calls: list[Callable[[], Any]] = [rows.fetchone, rows.fetchall, lambda: next(came), lambda: next(rows.batches(2))]
         for call in calls:
-            with self.assertRaisesRegex(ValueError, "^another thread reads from here$"):
+            with self.assertRaisesRegex(ValueError, "^another call reads from here$"):
                 call()
         go_on.set()
         thread.join()
         self.assertEqual(len(found[0]), 10)
+
+    def test_a_call_within_another(self) -> None:
+        """As of the handler of a signal, at a line of each kind of call: it is refused, or both give each row once; and if it doesn't catch that
+        it is refused, the reading has failed."""
+        calls: list[Callable[[Any], Any]] = [
+            lambda rows: rows.fetchall(), lambda rows: rows.fetchmany(3), lambda rows: zip(*next(rows.batches(2), [[]])), lambda rows: [rows.fetchone()],
+            lambda rows: islice(rows, 4), lambda rows: opened(rows)]
+
+        def opened(rows: Any) -> list[list[str]]:
+            with contextlib.suppress(StopIteration):
+                return [[rows.open(1).read()]]
+            return []
+
+        def taken(call: Callable[[Any], Any], rows: Any) -> list[str]:
+            return [str(row[-1]) for row in call(rows) if row]
+
+        numbers = random.Random(6)
+        for outer, inner, catches in product(calls, calls, (True, False)):
+            for at in numbers.sample(range(1, 60), 16):
+                came = text_of(b'"a","b"\r\n' + b"".join(b'1,"%d"\r\n' % number for number in range(20)), 30)
+                rows, found, failed = came.only(), list[str](), list[Exception]()
+
+                def come() -> None:
+                    try:
+                        found.extend(taken(inner, rows))
+                    except ValueError as refused:
+                        failed.append(refused)
+                        if not catches:
+                            raise
+
+                with contextlib.suppress(ValueError, gavyreto.MalformedText):
+                    meanwhile(at, lambda: found.extend(taken(outer, rows)), come)
+                with self.subTest(outer=calls.index(outer), inner=calls.index(inner), at=at, catches=catches):
+                    try:
+                        found += taken(calls[0], rows)
+                    except (gavyreto.Interrupted, gavyreto.MalformedText):
+                        self.assertTrue(failed and not catches)
+                    else:
+                        self.assertEqual((sorted(map(int, found)), came.rows), (list(range(20)), 20))
+
+    def test_arguments_that_are_none(self) -> None:
+        """They are refused before anything is read, and end no reading."""
+        calls: list[Callable[[Any], Any]] = [
+            lambda rows: rows.fetchmany("3"), lambda rows: rows.fetchmany(2.5), lambda rows: rows.fetchmany(-1), lambda rows: rows.batches("2"),
+            lambda rows: rows.batches(1.5), lambda rows: rows.batches(0), lambda rows: rows.open(2), lambda rows: rows.open(-3), lambda rows: rows.open("c"),
+            lambda rows: rows.open(None), lambda rows: rows.open(0.0)]
+        for number, call in enumerate(calls):
+            rows: Any = text_of(b'"a","b"\r\n' + b'1,"x"\r\n' * 9, 10).only()
+            rows.fetchone()
+            with self.subTest(number):
+                self.assertRaises((TypeError, ValueError, IndexError), call, rows)
+                rows.arraysize = "x"
+                self.assertRaises(TypeError, rows.fetchmany)
+                with rows.open("b") as value:
+                    for wrong in ("1", 0.5):
+                        self.assertRaises(TypeError, value.read, wrong)
+                    self.assertEqual((value.read(0), value.read()), ("", "x"))
+                self.assertEqual(len(rows.fetchall()), 7)
 
     def test_copies_are_refused(self) -> None:
         """Each would take a part of the text, and one of a set the next set for rows."""
