@@ -2,7 +2,6 @@
 from __future__ import annotations
 
 import contextlib
-import fcntl
 import os
 import re
 import socket
@@ -10,7 +9,7 @@ import sys
 import threading
 import time
 from dataclasses import dataclass, fields
-from typing import Any, Generic, Iterable, Iterator, Optional, Sequence, TypeVar
+from typing import Any, Generic, Iterable, Optional, Sequence, TypeVar
 
 from gavyreto.commands.common import STANDARD_ERROR, Stopped, cause_of, is_one_file, line, say, tell, write
 from gavyreto.program import BAD_INPUT, DONE, FAILED, REFUSED, SERVER_ERROR
@@ -141,21 +140,6 @@ class Progress:
     def end(self) -> None:
         if self._shows:
             say("\n")
-
-
-@contextlib.contextmanager
-def locked(folder: str) -> Iterator[None]:
-    """Keeps a folder of texts for this command. Raises `Stopped` if another one has it."""
-    descriptor = os.open(folder, os.O_RDONLY)
-    try:
-        fcntl.flock(descriptor, fcntl.LOCK_EX | fcntl.LOCK_NB)
-        yield
-        if not os.path.samestat(os.fstat(descriptor), os.stat(folder)):
-            raise Stopped(f"{folder}: another folder has its name now", FAILED)
-    except BlockingIOError:
-        raise Stopped(f"{folder}: another command writes its texts there", REFUSED) from None
-    finally:
-        os.close(descriptor)
 
 
 def waiting_in(folder: str) -> str:

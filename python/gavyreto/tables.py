@@ -17,7 +17,7 @@ from gavyreto.commands.common import Stopped, cause_of, command_for, folder_of_t
 from gavyreto.connection import UNASKED, Session
 from gavyreto.errors import BadAnswer, CertificateRefused, ConnectionFailed, EncryptionRefused, LoginRefused
 from gavyreto.exporting import version_of
-from gavyreto.outcomes import PARTIAL, TABLE, TEXT, Progress, locked, remove_unfinished, summed, waiting_in
+from gavyreto.outcomes import PARTIAL, TABLE, TEXT, Progress, remove_unfinished, summed, waiting_in
 from gavyreto.program import BAD_INPUT, DONE, FAILED, INTERRUPTED, REFUSED, SERVER_ERROR, Program
 
 LONGEST_STATEMENT = 100_000  # characters
@@ -253,7 +253,7 @@ class Workers:
 
 def export(asked: argparse.Namespace, items: list[Item], connect: Connect) -> int:
     """Exports the answer to each item, and returns the greatest status. The first login comes before anything is written."""
-    with folder_of_texts(asked.output), locked(asked.output), contextlib.ExitStack() as stack:
+    with folder_of_texts(asked.output), contextlib.ExitStack() as stack:
         table = outcomes.Table(asked.output, Record)
         workers, version = Workers(asked, connect, connect()), version_of(asked.program)
         names = {item.name for item in items}

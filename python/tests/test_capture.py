@@ -205,15 +205,16 @@ class Captures(unittest.TestCase):
         again = self.run_capture("capture", "out")
         self.assertEqual(again.returncode, 2)
         self.assertIn(b"has texts", again.stderr)
-        for words, status in ((["nothere", "other"], 5), (["--port", "1434", "capture", "third"], 4), ([sys.executable, "other"], 2), (["--port", "0", "capture", "other"], 2)):
+        cases = [(["nothere", "other"], 5), (["--port", "1434", "capture", "third"], 4), ([sys.executable, "a/b/c/"], 2), (["--port", "0", "capture", "other"], 2)]
+        for words, status in cases:
             with self.subTest(words=words):
                 came = self.run_capture(*words)
                 self.assertEqual((came.returncode, came.stdout.count(b"\n")), (status, int(status == 4)))
                 self.assertNotIn(b"Traceback", came.stderr)
-
+        self.assertFalse({"other", "a"} & {*os.listdir(self.folder)})
 
     def test_two_runs_into_one_folder(self) -> None:
-        """A text that another run put there meanwhile stays, and the run ends."""
+        """The second is refused as long as the first one has the folder; what something else put there meanwhile stays, and the run ends."""
         self.captured(conversation().frames)
         self.texts()
         command = [sys.executable, "-m", "gavyreto", "capture", "--program", PROGRAM, "-", "out"]
@@ -223,10 +224,12 @@ class Captures(unittest.TestCase):
             cast(BinaryIO, run.stdin).write(data[:5000])
             cast(BinaryIO, run.stdin).flush()
             cast(BinaryIO, run.stdout).readline()
+            second = self.run_capture("capture", "out")
+            self.assertEqual((second.returncode, second.stderr), (2, b"out: another command writes its texts there\n"))
             Path(self.folder, "out", self.names()[0]).write_bytes(b"another")
             _, notes = run.communicate(data[5000:])
         self.assertEqual((run.returncode, Path(self.folder, "out", self.names()[0]).read_bytes()), (5, b"another"))
-        self.assertIn(b"another run writes into this folder", notes)
+        self.assertIn(b"something else writes into this folder", notes)
 
     def test_files_that_are_compressed_or_come_by_a_pipe(self) -> None:
         made = captures.Capture()

@@ -16,9 +16,9 @@ import time
 import unittest
 from collections.abc import Callable, Iterator
 
-from gavyreto import outcomes, tds
+from gavyreto import tds
 from gavyreto.commands import many
-from gavyreto.commands.common import Stopped
+from gavyreto.commands.common import Stopped, folder_of_texts
 from tests import test_adapt
 from tests.beside import PROGRAM, ROOT, SECONDS, answered, is_waiting, need, responses, running_in, served, skip, started, wait_for, wire
 
@@ -442,8 +442,7 @@ class Here(Many):
         """Texts and table would be in two."""
         folder = self.path("out")
         for replaced in True, False:
-            os.mkdir(folder)
-            with self.assertRaisesRegex((Stopped, FileNotFoundError), f"{folder}: another folder has its name now|No such file"), outcomes.locked(folder):
+            with self.assertRaisesRegex((Stopped, FileNotFoundError), f"{folder}: another folder has its name now|No such file"), folder_of_texts(folder):
                 os.rename(folder, folder + ".before")
                 if replaced:
                     os.mkdir(folder)

@@ -20,7 +20,6 @@ from __future__ import annotations
 
 import argparse
 import contextlib
-import errno
 import itertools
 import os
 import signal
@@ -105,18 +104,11 @@ class Export:
         self._put(name + suffix, sides, answer.time, answer.words(), outcome.status, outcome.line)
 
     def _put_file(self, path: str, name: str) -> None:
-        """Gives a file its name in the folder, unless another run has put one there."""
+        """Gives a file its name in the folder, unless something has put one there."""
         target = os.path.join(self._asked.out, name)
-        try:
-            os.link(path, target)
-        except FileExistsError:
-            raise Stopped(f"{target} is there: another run writes into this folder", FAILED) from None
-        except OSError as failure:
-            if failure.errno not in (errno.EPERM, errno.EOPNOTSUPP, errno.EMLINK) or os.path.lexists(target):
-                raise
-            os.replace(path, target)  # a file system without links
-            return
-        os.remove(path)
+        if os.path.lexists(target):
+            raise Stopped(f"{target} is there: something else writes into this folder", FAILED)
+        os.replace(path, target)
 
     def _adapt(self, packets: str) -> None:
         """Rewrites columns that the program refuses. What can't be followed stays as it is, and the program says why."""

@@ -113,16 +113,34 @@ def ending_of(failure: BaseException) -> tuple[str, int]:
 
 @contextlib.contextmanager
 def folder_of_texts(path: str) -> Iterator[None]:
-    """Makes a folder if it isn't there. What fails leaves none that it made, unless something was written there."""
-    is_new = not os.path.isdir(path)
+    """Makes a folder if it isn't there, and those above it, and keeps it for this command. What fails leaves none that it made, unless
+    something was written there. Raises `Stopped` if another command has it, or another folder has got its name."""
+    made, above = list[str](), os.path.abspath(path)
+    while not os.path.lexists(above):
+        made.append(above)
+        above = os.path.dirname(above)
     os.makedirs(path, exist_ok=True)
+    descriptor = os.open(path, os.O_RDONLY)
     try:
-        yield
-    except BaseException:
-        if is_new:
+        _lock(path, descriptor)
+        try:
+            yield
+            if not os.path.samestat(os.fstat(descriptor), os.stat(path)):
+                raise Stopped(f"{path}: another folder has its name now", FAILED)
+        except BaseException:
             with contextlib.suppress(OSError):  # it has something
-                os.rmdir(path)
-        raise
+                for it in made:
+                    os.rmdir(it)
+            raise
+    finally:
+        os.close(descriptor)
+
+
+def _lock(path: str, descriptor: int) -> None:
+    try:
+        fcntl.flock(descriptor, fcntl.LOCK_EX | fcntl.LOCK_NB)
+    except BlockingIOError:
+        raise Stopped(f"{path}: another command writes its texts there", REFUSED) from None
 
 
 # Standard input, output and error.

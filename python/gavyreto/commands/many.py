@@ -23,9 +23,9 @@ from types import TracebackType
 from typing import Any, Iterator, Optional, Union
 
 from gavyreto import outcomes
-from gavyreto.commands.common import STANDARD_ERROR, STREAMS, Stopped, add_options_of_program, cause_of, checked_program, command_for, named, number_in, parser_of
+from gavyreto.commands.common import STANDARD_ERROR, STREAMS, Stopped, add_options_of_program, cause_of, checked_program, command_for, folder_of_texts, named, number_in, parser_of
 from gavyreto.exporting import Outcome, Stamp, end_all, export_file, stamp_of, version_of
-from gavyreto.outcomes import PARTIAL, TABLE, TEXT, Progress, locked, remove_unfinished, summed
+from gavyreto.outcomes import PARTIAL, TABLE, TEXT, Progress, remove_unfinished, summed
 from gavyreto.program import DONE, FAILED, INTERRUPTED, REFUSED, SERVER_ERROR
 
 SECONDS_OF_SCHEDULER = 30  # the longest that it may be silent, or that its file is waited for
@@ -208,8 +208,7 @@ class Cluster:
 def export_all(asked: argparse.Namespace) -> int:
     """Exports what isn't done, and returns the greatest status."""
     files = files_of(asked)
-    os.makedirs(asked.out, exist_ok=True)
-    with locked(asked.out):
+    with folder_of_texts(asked.out):
         return export_left(files, asked)
 
 
