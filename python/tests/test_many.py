@@ -372,6 +372,13 @@ class Here(Many):
         self.assertEqual([(name, status) for name, status, _ in self.table()], [("000", 0), ("link", 5), ("pipe", 5), ("within", 5)])
         self.assertEqual([line.rpartition(": ")[2] for _, _, line in self.table()[1:]], ["No such file or directory", "no regular file", "no regular file"])
 
+    def test_texts_in_a_folder_of_files(self) -> None:
+        """The folder of the texts within that of the files is no file, whether or not it is there."""
+        self.store(1)
+        os.symlink("in", self.path("also"))
+        for out in ("in/texts", "in/texts", "also/texts"):
+            self.assertEqual(self.many("--program", PROGRAM, "in", out), (0, "1 responses: 1 done, 0 with an error of the server, 0 refused, 0 failed"))
+
     def test_a_table_that_is_a_pipe(self) -> None:
         self.store(1)
         os.mkdir(self.path("out"))

@@ -96,12 +96,15 @@ def _inode_of(path: Union[str, int]) -> Optional[tuple[int, int]]:
 
 
 def files_of(asked: argparse.Namespace) -> list[str]:
-    """The files to export, by their paths. Raises `Stopped` if two of them would have one text, or texts would be taken for files."""
+    """The files to export, by their paths; the folder of the texts within another one is none. Raises `Stopped` if two of them would have one
+    text, or texts would be taken for files."""
     found: list[str] = []
+    out = os.path.realpath(asked.out)
     for path in asked.files:
-        if os.path.realpath(path) == os.path.realpath(asked.out):
+        folder = os.path.realpath(path)
+        if folder == out:
             raise Stopped(f"{path} is the folder of the texts too: name another one for them", REFUSED)
-        inside = sorted(entry.path for entry in os.scandir(path)) if os.path.isdir(path) else [path]
+        inside = sorted(it.path for it in os.scandir(path) if os.path.join(folder, it.name) != out) if os.path.isdir(path) else [path]
         if not inside:
             raise Stopped(f"{path}: an empty folder", REFUSED)
         found += [os.path.abspath(it) for it in inside]
