@@ -262,7 +262,7 @@ class Server(NamedTuple):
         raise failure
 
     def found(self) -> Server:
-        """The server with the port of its instance. Raises ConnectionFailed or OSError."""
+        """The server with the port of its instance. Raises ConnectionFailed."""
         if not self.instance:
             return self
         there = f"{self.host}\\{self.instance}"
@@ -272,6 +272,8 @@ class Server(NamedTuple):
             raise ConnectionFailed(f"{there}: {wrong}: write HOST,PORT") from None
         except TimeoutError:
             raise TimedOut(f"{there}: SQL Server Browser didn't answer at port {BROWSER} of UDP within {self.login_seconds:g} seconds: write HOST,PORT") from None
+        except OSError as failure:
+            raise ConnectionFailed(f"{there}: {failure.strerror or failure}") from None
 
     def _seconds_left(self) -> Optional[float]:
         """The seconds up to the end of the login; None without one."""
@@ -306,6 +308,8 @@ class Server(NamedTuple):
 
     def _look_up(self, flags: int) -> list[Any]:
         try:
+            if "\0" in self.host:  # the system would look up what is before it
+                raise ValueError("a NUL character")
             return socket.getaddrinfo(self.host, self.port, 0, socket.SOCK_STREAM, 0, flags)
         except ValueError as wrong:  # a name that is too long, say
             raise ConnectionFailed(f"{self.host}, port {self.port}: no host of a network ({wrong})") from None

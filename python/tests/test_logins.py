@@ -13,6 +13,7 @@ import threading
 import unittest
 from collections.abc import Iterator
 from typing import Optional
+from unittest import mock
 
 import gavyreto
 from gavyreto import connection, logins, tds, where
@@ -306,6 +307,9 @@ class Names(Live):
             self.assertNotIn("geheim", str(refused.exception))
         with self.assertRaises(ValueError):
             gavyreto.connect("localhost", user="u", password="p", integrated=True)
+        for name in (f"mssql://u@127.0.0.1%00.example:{server['PORT']}", "127.0.0.1\0.example", "127.0.0.1\0\\sales"):
+            with self.assertRaisesRegex(gavyreto.ConnectionFailed, "no host of a network .a NUL character."):
+                gavyreto.connect(name, user="u", password="secret", encrypt="none", port=int(server["PORT"]))
 
 
 @contextlib.contextmanager
@@ -361,6 +365,9 @@ class Instances(Live):
                 came = self.asked()
                 self.assertEqual((came.returncode, came.stdout, came.stderr.count(b"\n")), (5, b"", 1))
                 self.assertIn(f"127.0.0.1\\sales: {line}", came.stderr.decode())
+        with mock.patch.object(socket, "getaddrinfo", side_effect=socket.gaierror(socket.EAI_NONAME, "Name or service not known")):
+            with self.assertRaisesRegex(gavyreto.ConnectionFailed, r"^nowhere\\sales: Name or service not known$"):
+                gavyreto.connect("nowhere\\sales", user="u")
         came = self.asked("--login-seconds", "2")
         self.assert_ends(came, 5, b"", "127.0.0.1\\sales: SQL Server Browser didn't answer at port 1434 of UDP within 2 seconds: write HOST,PORT")
 
