@@ -4,6 +4,7 @@ from __future__ import annotations
 import contextlib
 import io
 import threading
+from functools import partial
 from typing import Any, Iterator, Optional, cast
 
 from gavyreto.adapting import Adapter, Blocks
@@ -185,25 +186,7 @@ class Answer(Response):
             self._descriptions = LateDescriptions(io.BytesIO(block).read)
         else:
             found = cast(Descriptions, self._descriptions)
-            self._feeding = Feeding(lambda write: self._hand_on(write, found, block), self._program)
-
-    def _hand_on(self, write: Write, found: Descriptions, first: bytes) -> bool:
-        """Hands the answer to the program, and notes the descriptions that may be asked for. Returns whether it was whole."""
-        blocks = self._blocks(first, write if self._charset is None else lambda _: None)
-        read = Blocks(lambda: next(blocks, b"")).read
-        if self._charset is not None:
-            return adapt_all(Adapter(read, write, self._charset, found.add), found)
-        found.note(Payload(read), 1 if self._is_only else None)
-        for _ in blocks:
-            pass
-        return self._session.is_ready()
-
-    def _blocks(self, block: bytes, write: Write) -> Iterator[bytes]:
-        """The blocks of the answer. Each is handed on only after it was parsed here, so the parser never lags behind the program."""
-        while block:
-            yield block
-            write(block)
-            block = self._session.next()
+            self._feeding = Feeding(partial(_hand_on, self._session, block, self._charset, found, 1 if self._is_only else None), self._program)
 
     def _unfinished(self) -> Optional[str]:
         return self._session.unfinished
@@ -227,6 +210,26 @@ class Answer(Response):
             if self.owns or not self.is_whole:
                 self._session.close()
                 self._program.close()
+
+
+def _hand_on(session: Session, first: bytes, charset: Optional[str], found: Descriptions, most: Optional[int], write: Write) -> bool:
+    """Hands an answer to the program, and notes the descriptions that may be asked for, at most so many. Returns whether it was whole."""
+    blocks = _blocks(session, first, write if charset is None else lambda _: None)
+    read = Blocks(lambda: next(blocks, b"")).read
+    if charset is not None:
+        return adapt_all(Adapter(read, write, charset, found.add), found)
+    found.note(Payload(read), most)
+    for _ in blocks:
+        pass
+    return session.is_ready()
+
+
+def _blocks(session: Session, block: bytes, write: Write) -> Iterator[bytes]:
+    """The blocks of an answer. Each is handed on only after it was parsed here, so the parser never lags behind the program."""
+    while block:
+        yield block
+        write(block)
+        block = session.next()
 
 
 def connect(

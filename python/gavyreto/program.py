@@ -223,6 +223,9 @@ class Program(contextlib.AbstractContextManager["Program"]):
 
     def __del__(self) -> None:
         self.kill()
+        self.close()
+        if self._pipe:
+            self._pipe.close()  # nobody hands over any more
 
     def begin(self) -> None:
         """Begins a response. Raises OSError if the program can't be started."""

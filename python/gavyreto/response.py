@@ -91,7 +91,9 @@ class Feeding:
                 self._program.cut()
 
     def join(self) -> None:
-        self._thread.join()
+        """Waits for its end, unless it is the thread that calls, in which what isn't used may be looked for."""
+        if self._thread is not threading.current_thread():
+            self._thread.join()
 
 
 class Response(Sets):
@@ -104,9 +106,16 @@ class Response(Sets):
         self.report: Optional[Report] = None  #: once all is read and the server reported no error
         self.is_whole = False  #: once all is read, whether or not the server reported an error
         self._program, self._tail, self._held = program, tail, held
-        program.begin()
-        self._feeding = Feeding(copy, program) if copy else None
+        self._feeding: Optional[Feeding] = None
         super().__init__(self._read, dates, descriptions, adapts)
+        program.begin()
+        if copy:
+            self._feeding = Feeding(copy, program)
+
+    def __del__(self) -> None:
+        """Ends a reading that is dropped. What is handed over in a thread doesn't keep it."""
+        if not (self._is_ended or self._is_closed or self._failure):
+            self.close()
 
     def _read(self, most: int) -> bytes:
         return self._program.read(most)
@@ -185,7 +194,7 @@ def export(
         return _of_bytes(bytes(source), command, dates)
     if type(source) in OF_DESCRIPTORS:
         return _of_descriptor(_descriptor_of(source), command, dates)
-    return _fed(_read_of(source), command, dates)
+    return _fed(_reading(source), command, dates)
 
 
 def _of_bytes(data: bytes, command: list[str], dates: Dates) -> Response:
@@ -244,19 +253,23 @@ def _of_descriptor(descriptor: int, command: list[str], dates: Dates) -> Respons
     """A response in a file, which the program reads, and which is read here again for its descriptions and its end; or one
     that comes by a pipe or a socket."""
     if not stat.S_ISREG(os.fstat(descriptor).st_mode):
-        return _fed(_reading(descriptor)[0], command, dates)
+        return _fed(_reading(descriptor), command, dates)
     held = HeldFile(descriptor)
     return Response(Program(command, held.descriptor), dates, LateDescriptions(held.read), tail=held.tail, held=held)
 
 
-def _fed(read: Read, command: list[str], dates: Dates) -> Response:
+def _fed(reading: tuple[Read, Callable[[], object]], command: list[str], dates: Dates) -> Response:
     """A response whose packets are read here, and handed to the program."""
+    read, close = reading
     found, tails = Descriptions(), list[Callable[[], bytes]]()
 
     def copy(write: Write) -> bool:
         payload = Payload(read, write)
         tails.append(lambda: payload.tail)
-        return found.watch(payload)
+        try:
+            return found.watch(payload)
+        finally:
+            close()
 
     return Response(Program(command), dates, found, copy=copy, tail=lambda: tails[0]())
 

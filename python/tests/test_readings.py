@@ -3,6 +3,7 @@ from __future__ import annotations
 
 import contextlib
 import copy
+import gc
 import io
 import os
 import pickle
@@ -24,7 +25,8 @@ from gavyreto import tds
 from gavyreto.connection import Channel, Server
 from gavyreto.text import Sets
 from tests.beside import (
-    PROGRAM, SECONDS, Live, answered, context_of, interrupted, listening, log_in, log_in_encrypted, meanwhile, responses, saying_goodbye, served, serving, wire,
+    PROGRAM, SECONDS, Live, answered, context_of, interrupted, listening, log_in, log_in_encrypted, meanwhile, responses, saying_goodbye, served, serving, wait_for,
+    wire,
 )
 
 ORDERED = answered(*responses.order_rows(0), served.done())
@@ -385,6 +387,30 @@ class Connections(Live):
                 for _ in range(2):
                     with self.assertRaisesRegex(gavyreto.ConnectionFailed, f"^the connection was closed after: {line}"):
                         connection.query("x", program=PROGRAM)
+
+    def test_an_answer_that_is_dropped(self) -> None:
+        """Its connection ends, whatever is under way of it, and so does the thread that reads from that."""
+        for adapt in (False, True):
+            ended, threads = threading.Event(), threading.active_count()
+
+            def serve(channel: Channel) -> None:
+                log_in(channel)
+                channel.read_message()
+                rows = tds.packet(tds.PacketType.ANSWER, b"".join(responses.order_rows(30))[:4000], False)
+                try:
+                    channel.write(rows)
+                    while True:
+                        channel.write(tds.packet(tds.PacketType.ANSWER, served.counted_body(tds.Token.INFO, bytes(9)) * 300, False))
+                except ConnectionError:
+                    ended.set()
+
+            with self.subTest(adapt=adapt), listening(serve) as port:
+                rows = gavyreto.query("x", "127.0.0.1", port=port, user="u", encrypt="none", adapt=adapt, program=PROGRAM).only()
+                rows.fetchone()
+                del rows
+                gc.collect()
+                self.assertTrue(ended.wait(10))
+                wait_for(lambda: threading.active_count() <= threads + 1)  # that of the server
 
     def test_a_retry_does_not_read_old_bytes(self) -> None:
         """Bytes that nobody asked for, in the socket or within TLS, end the connection; a second try doesn't take them for its answer."""

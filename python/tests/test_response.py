@@ -10,7 +10,9 @@ import pickle
 import random
 import socket
 import subprocess
+import sys
 import tempfile
+import textwrap
 import threading
 import unittest
 from collections.abc import Iterator
@@ -22,7 +24,7 @@ from typing import Any, Optional
 import gavyreto
 from gavyreto import tds
 from gavyreto.program import report_of
-from tests.beside import PROGRAM, answered, interrupted, is_waiting, responses, served, wait_for, wire
+from tests.beside import PROGRAM, answered, interrupted, is_waiting, responses, served, started, wait_for, wire
 
 
 def export(source: Any, **options: Any) -> gavyreto.Response:
@@ -86,6 +88,52 @@ class SetsAndRows(unittest.TestCase):
             if len(os.listdir("/proc/self/fd")) < before + 15:
                 return
         self.fail("the descriptors of programs that were killed are left")
+
+    def test_what_is_left_of_readings(self) -> None:
+        """Of those that are dropped within a long response neither a thread nor a program; of those, and of others, nothing that Python warns of."""
+        script = """
+            import gc, io, os, socket, subprocess, sys, threading, time
+            from pathlib import Path
+            from gavyreto import export
+            short, path = Path(sys.argv[1]).read_bytes(), sys.argv[2]
+            program, threads = sys.argv[3], threading.active_count()
+            def put(write):
+                try:
+                    write(Path(path).read_bytes())
+                except OSError:
+                    pass  # nobody reads it any more
+            def programs():
+                return len(subprocess.run(["pgrep", "-P", str(os.getpid()), "tds_replay"], capture_output=True).stdout.split())
+            (one, other), (source, sink) = socket.socketpair(), os.pipe()
+            for write in other.sendall, lambda data: os.write(sink, data):
+                threading.Thread(target=put, args=(write,), daemon=True).start()
+            with open(path, "rb", buffering=0) as file, open(path, "rb") as buffered:
+                for long in file.readall(), path, file, buffered, source, one:
+                    if long is file:
+                        file.seek(0)
+                    rows = export(long, program=program, adapt=long is buffered).only()
+                    assert rows.fetchone() and programs() == 1
+                    del rows
+                    gc.collect()
+            os.close(source), one.close(), other.close(), os.close(sink)
+            for adapt in False, True:
+                for make in lambda: short, lambda: io.BytesIO(short), lambda: sys.argv[1]:
+                    list(export(make(), program=program, adapt=adapt))
+                    with export(make(), program=program, adapt=adapt) as came:
+                        next(came)
+            until = time.monotonic() + 60
+            while threading.active_count() > threads and time.monotonic() < until:
+                time.sleep(0.01)
+            print(threading.active_count() - threads, programs())
+            """
+        with tempfile.TemporaryDirectory() as folder:
+            paths = [os.path.join(folder, name) for name in ("short", "long")]
+            for path, data in zip(paths, (wire("orders"), wire("orders", 300_000))):
+                with open(path, "wb") as file:
+                    file.write(data)
+            command = [sys.executable, "-X", "dev", "-W", "error", "-c", textwrap.dedent(script), *paths, PROGRAM]
+            came = subprocess.run(command, capture_output=True, text=True, check=False, **started())
+        self.assertEqual((came.stdout, came.stderr), ("0 0\n", ""))
 
     def test_rows_come_before_the_response_has_ended(self) -> None:
         data = wire("orders", 5000)
