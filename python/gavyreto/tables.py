@@ -213,10 +213,11 @@ class Workers:
             with lock:
                 return None if self._is_stopped.is_set() else next(left, None)
 
-        self._threads = [threading.Thread(target=self._work, args=(worker, following), daemon=True) for worker in self._workers[:len(items)]]
         try:
-            for thread in self._threads:
+            for worker in self._workers[:len(items)]:
+                thread = threading.Thread(target=self._work, args=(worker, following), daemon=True)
                 thread.start()
+                self._threads.append(thread)
             for _ in self._threads:
                 while outcome := self._done.get():
                     if isinstance(outcome, BaseException):

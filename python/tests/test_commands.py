@@ -52,6 +52,35 @@ class Exceptions(unittest.TestCase):
             entry.ended([])
 
 
+class Threads(Live):
+    SCRIPT = """
+import runpy, sys, threading
+start, left = threading.Thread.start, [int(sys.argv.pop(1))]
+def starts(thread):
+    left[0] -= 1
+    if left[0] < 0:
+        raise RuntimeError("can't start new thread")
+    start(thread)
+threading.Thread.start = starts
+runpy.run_module("gavyreto", run_name="__main__", alter_sys=True)
+"""
+
+    def test_a_thread_that_cannot_be_started(self) -> None:
+        """The first, or a later one: a line and a status, and no more than that."""
+        with open(self.path("statements"), "w", encoding="utf-8") as file:
+            file.write("orders\nkinds\nsets\n")
+        asking = "query -S localhost,$PORT -U reader --certificates $CERTIFICATE --program $PROGRAM"
+        line = b"want of memory or processes: no thread can be started\n"
+        for words in (f"{asking} 'SELECT * FROM orders'", f"{asking} --tables statements -j 3 -o texts", "many -j 3 --program $PROGRAM orders.tds kinds.tds sets.tds texts"):
+            for count in (*range(7), 100):
+                came = self.beside((), f"rm -rf texts; exec {sys.executable} - {count} {words} <<'PYTHON'\n{self.SCRIPT}\nPYTHON", GAVYRETO_TRACEBACK="")
+                with self.subTest(words=words, count=count):
+                    self.assertIn((came.returncode, came.stderr if came.returncode else b""), ((0, b""), (6, line)), came.stderr)
+                    self.assertTrue(count or came.returncode)
+            self.assertEqual(came.returncode, 0)
+        self.beside((), "rm -rf texts")
+
+
 class Numbers(unittest.TestCase):
     def test_numbers_of_a_range(self) -> None:
         number = common.number_in(8, 32767)

@@ -35,6 +35,7 @@ BEGINNINGS = {
     b"\x28\xB5\x2F\xFD": "compressed: zstd -dc gives what is in it",
     b'"': "a text that tds_replay wrote, and no packets: gavyreto.read reads it",
 }
+NO_THREAD = "can't start new thread"  # as Python has it
 OF_TESTS = "GAVYRETO_TRACEBACK"  # a variable that lets the traceback of an unforeseen exception out
 
 
@@ -106,6 +107,8 @@ def ending_of(failure: BaseException) -> tuple[str, int]:
         return "interrupted", INTERRUPTED
     if isinstance(failure, MemoryError):
         return "want of memory", NO_MEMORY
+    if isinstance(failure, RuntimeError) and str(failure) == NO_THREAD:
+        return "want of memory or processes: no thread can be started", NO_MEMORY
     if os.environ.get(OF_TESTS):
         raise failure
     return f"gavyreto failed, which it shouldn't: {type(failure).__name__}: {failure}", FAILED
