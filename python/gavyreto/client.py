@@ -107,18 +107,22 @@ class Cursor(contextlib.AbstractContextManager["Cursor"]):
         self.rowcount = -1  #: how many rows there are isn't known before they have come
         self._answer: Optional[Answer] = None
         self._set: Optional[ResultSet] = None
+        self._is_closed = False
 
     def __exit__(self, *_: object) -> None:
         self.close()
 
     def close(self) -> None:
-        """Leaves the answer, of which no more is handed out."""
+        """Leaves the answer, of which no more is handed out; nothing is asked any more."""
+        self._is_closed = True
         answer, self._answer, self._set = self._answer, None, None
         if answer:
             answer.close()
 
     def execute(self, statement: str, parameters: object = None, **options: Any) -> Cursor:
         """Asks, with the options of `Connection.query`. Parameters aren't filled in: they raise NotSupportedError."""
+        if self._is_closed:
+            raise ProgrammingError("the cursor is closed")
         if parameters:
             raise NotSupportedError("parameters aren't filled in: the statement has to have its values")
         self._answer = self._set = None  # a statement that fails has none

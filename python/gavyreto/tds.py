@@ -261,6 +261,8 @@ def read_login_answer(payload: bytes) -> Accepted:
         token, length = struct.unpack_from("<BH", payload, at)
         body = payload[at + 3:at + 3 + length]
         if token == Token.DONE and acknowledged and LEAST_PACKET_SIZE <= size <= GREATEST_PACKET_SIZE and at + DONE_LENGTH == len(payload):
+            if length & (MORE | FAILED | CANCELLED | SERVER_FAILED):  # of a DONE it is the status
+                raise ValueError(f"an answer to a login whose end is none: DONE 0x{length:04x}")
             return Accepted(size, routed, ticket)
         if token == Token.ERROR:
             raise Refused(error_line(body))

@@ -115,15 +115,19 @@ class BeforeStatements(Live):
             self.assert_ends(came, 4, ORDERS, REPORT, UNASKED)
             self.assert_ends(self.asked(b"", [ORDERED + behind], "SELECT 1"), 4, ORDERS, REPORT, UNASKED)
 
-    def test_a_login_with_more_behind_its_end(self) -> None:
-        def serve(channel: Channel) -> None:
-            channel.read_message()
-            channel.write_message(PacketType.ANSWER, tds.prelogin(Encryption.NOT_SUPPORTED))
-            channel.read_message()
-            channel.write_message(PacketType.ANSWER, served.login_ack("Test") + served.done() + b"".join(responses.order_rows(0)))
+    def test_a_login_that_is_not_over(self) -> None:
+        """More is behind its end, or its end says that more follows, that it failed, or that it was cancelled."""
+        ends = [served.done() + b"".join(responses.order_rows(0)), *(served.done(1 << bit) for bit in (0, 1, 5, 8))]
+        for end in ends:
+            def serve(channel: Channel) -> None:
+                channel.read_message()
+                channel.write_message(PacketType.ANSWER, tds.prelogin(Encryption.NOT_SUPPORTED))
+                channel.read_message()
+                channel.write_message(PacketType.ANSWER, served.login_ack("Test") + end)
+                channel.receive()
 
-        with listening(serve) as port:
-            self.assert_ends(ask_port(port), 4, b"", "what came isn't the answer of a server of TDS 7.4 to a login")
+            with self.subTest(end[:3]), listening(serve) as port:
+                self.assert_ends(ask_port(port), 4, b"", "what came isn't the answer of a server of TDS 7.4 to a login")
 
 
 class Redirected(Live):

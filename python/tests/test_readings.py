@@ -616,7 +616,7 @@ class DatabaseApi(Live):
             cursor = connection.cursor().execute("x", program=PROGRAM)
             self.assertEqual(len(cursor.fetchmany(1)), 1)
             cursor.close()
-            calls: list[Callable[[], object]] = [cursor.fetchone, cursor.fetchmany, cursor.fetchall]
+            calls: list[Callable[[], object]] = [cursor.fetchone, cursor.fetchmany, cursor.fetchall, lambda: cursor.execute("x", program=PROGRAM)]
             for call in calls:
                 with self.assertRaises(gavyreto.ProgrammingError):
                     call()
