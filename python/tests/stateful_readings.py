@@ -207,7 +207,7 @@ class Reading:
             try:
                 found[place] = [row[0] for row in rows.fetchmany(100)]
             except ValueError as refused:
-                assert "another thread" in str(refused), refused
+                assert "another call" in str(refused), refused
             except (gavyreto.Error, KeyboardInterrupt) as failure:
                 raised.append(failure)
 

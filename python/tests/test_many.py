@@ -16,7 +16,7 @@ import time
 import unittest
 from collections.abc import Callable, Iterator
 
-from gavyreto import tds
+from gavyreto import outcomes, tds
 from gavyreto.commands import many
 from gavyreto.commands.common import Stopped, folder_of_texts
 from tests import test_adapt
