@@ -5,6 +5,7 @@ import os
 import re
 import shutil
 import subprocess
+import sys
 import tempfile
 import unittest
 
@@ -54,6 +55,21 @@ def environment_in(folder: str) -> str:
 def names_below(folder: str) -> list[str]:
     """All files and folders below a folder."""
     return sorted(os.path.join(at, name) for at, folders, names in os.walk(folder) for name in [*folders, *names])
+
+
+class Packed(unittest.TestCase):
+    def test_what_cannot_be_packed(self) -> None:
+        """Another program, and a folder that isn't there: a line. A folder for temporary files that isn't there is no matter."""
+        with tempfile.TemporaryDirectory() as folder:
+            for program, into, line in (
+                (sys.executable, folder, f"{sys.executable} isn't tds_replay"), (PROGRAM, os.path.join(folder, "none"), "No such file or directory"), (PROGRAM, folder, ""),
+            ):
+                words = [os.path.join(ROOT, "tools", "deb"), program, into]
+                came = subprocess.run(words, env=os.environ | {"TMPDIR": os.path.join(folder, "none")}, capture_output=True, text=True, check=False)
+                with self.subTest(line):
+                    self.assertEqual((came.returncode, came.stderr.strip().count("\n")), (int(bool(line)), 0), came.stderr)
+                    self.assertIn(line, came.stderr)
+            self.assertEqual([name[-4:] for name in os.listdir(folder)], [".deb"])
 
 
 class Installed(unittest.TestCase):
