@@ -26,7 +26,6 @@ import signal
 import tempfile
 from collections.abc import Iterable
 from datetime import datetime, timedelta, timezone
-from pathlib import Path
 from typing import Optional, cast
 
 from gavyreto import tds
@@ -39,10 +38,10 @@ from gavyreto.capturing.keeping import Kept, Room
 from gavyreto.capturing.messages import is_header
 from gavyreto.capturing.progress import Progress
 from gavyreto.commands.common import (
-    SIGNALS, Input, Stopped, add_options_of_program, check_input, checked_program, command_for, folder_of_texts, line, number_in, parser_of, put, say, tell,
+    SIGNALS, Input, Stopped, add_options_of_program, cause_of, check_input, checked_program, command_for, folder_of_texts, line, number_in, parser_of, put, say, tell,
 )
 from gavyreto.payload import Ended
-from gavyreto.program import BAD_INPUT, FAILED, REFUSED, SERVER_ERROR, Ending, judged
+from gavyreto.program import BAD_INPUT, FAILED, REFUSED, SERVER_ERROR, Ending, OutputFailed
 from gavyreto.tds import PacketType
 
 HEADER = ("text", "client", "server", "time", "statement", "status", "line")
@@ -83,17 +82,10 @@ class Export:
     def answer(self, sides: Sides, answer: Answer) -> None:
         """Exports an answer whose packets are kept."""
         kept = cast(Kept, answer.kept)
-        is_whole = answer.packets.is_whole and not answer.why
-        data = kept.whole() if is_whole else None
         packets = kept.file() if self._asked.packets or self._asked.adapt else ""
         if self._asked.adapt:
             self._adapt(packets)
-        if data is not None:
-            ending, text = self._room.export(Path(packets).read_bytes() if self._asked.adapt else data)
-        else:
-            run = kept.piped() or self._room.run(packets or kept.file())
-            status, notes = run.end()
-            ending, text = judged(status, notes, os.path.getsize(run.text)), run.text
+        ending, text = kept.export(answer.packets.is_whole and not answer.why)
         outcome = self._outcome(ending, answer)
         name = self._next_name(sides)
         suffix = ".csv" if outcome.status in (0, SERVER_ERROR) else ".csv.partial"
@@ -249,3 +241,5 @@ def run(words: list[str]) -> int:
         return capture(asked)
     except files.CutShort as cut:
         raise Stopped(f"{asked.file}: {cut}", BAD_INPUT) from None
+    except OutputFailed as failed:
+        raise Stopped(f"{asked.out}: {cause_of(failed.failure)}", FAILED) from None
