@@ -5,13 +5,13 @@ import contextlib
 import os
 import re
 import socket
-import sys
 import threading
 import time
 from dataclasses import dataclass, fields
 from typing import Any, Generic, Iterable, Optional, Sequence, TypeVar
 
-from gavyreto.commands.common import STANDARD_ERROR, Stopped, cause_of, is_one_file, line, say, tell, write
+from gavyreto.commands import common
+from gavyreto.commands.common import STANDARD_ERROR, Stopped, cause_of, is_one_file, line, tell, write
 from gavyreto.program import BAD_INPUT, DONE, FAILED, REFUSED, SERVER_ERROR
 from gavyreto.records import record_at
 from gavyreto.values import value_of
@@ -123,23 +123,16 @@ def _line_of(record: Record) -> bytes:
     return line(vars(record).values()).encode("utf-8", "surrogateescape")
 
 
-class Progress:
-    """A line on a terminal, which says how far it is."""
+class Progress(common.Progress):
+    """How many texts there are."""
 
     def __init__(self, what: str, count: int, done: int) -> None:
-        self._what, self._count, self._done, self._began, self._shows = what, count, done, time.monotonic(), sys.stderr.isatty()
-        self._last = 0.0
+        super().__init__()
+        self._what, self._count, self._done = what, count, done
 
     def step(self, failed: int) -> None:
         self._done += 1
-        now = time.monotonic()
-        if self._shows and (now - self._last > 0.1 or self._done == self._count):
-            self._last = now
-            say(f"\r\033[K{self._done} of {self._count} {self._what}, {failed} refused or failed, {now - self._began:.0f} seconds")
-
-    def end(self) -> None:
-        if self._shows:
-            say("\n")
+        self.show(lambda seconds: f"{self._done} of {self._count} {self._what}, {failed} refused or failed, {seconds:.0f} seconds")
 
 
 def waiting_in(folder: str) -> str:

@@ -5,11 +5,12 @@ import codecs
 import io
 import re
 from itertools import repeat
-from typing import Callable, Iterator, NamedTuple, Optional, Union, cast
+from typing import Callable, Iterator, NamedTuple, Optional, TypeVar, Union, cast
 
 from gavyreto.values import BINARY, TEXT, Shape
 
 Read = Callable[[int], bytes]
+Piece = TypeVar("Piece", str, bytes)
 BLOCK = 1 << 17  # bytes that are read at once, at most
 LONGEST = 1 << 20  # characters of a row that are held as text; a longer row is read field by field
 SEPARATOR = "\r\n"  # at the end of a record, and alone between two sets
@@ -162,9 +163,9 @@ class Records:
         """The next field, whose pieces have to be read before `end_of_field`."""
         self._need(2)
         if self.rest.startswith('"'):
-            return OpenField(self._quoted(), TEXT)
+            return OpenField(self._pieces('"', QUOTED, 1, lambda text: text.replace('""', '"')), TEXT)
         if self.rest.startswith("0x"):
-            return OpenField(self._digits(), BINARY)
+            return OpenField(self._pieces("0x", DIGITS, 2, bytes.fromhex), BINARY)
         return self._short()
 
     def end_of_field(self) -> str:
@@ -186,27 +187,17 @@ class Records:
         self.rest = self.rest[len(field):]
         return field
 
-    def _quoted(self) -> Iterator[str]:
-        """The pieces of a text in quotes. A quote at the end of what is there may be the first of two."""
-        self.rest = self.rest[1:]
-        is_closed = False
-        while not is_closed:
-            self._need(2)
-            end = _end_of(QUOTED, self.rest)
-            piece, self.rest = self.rest[:end].replace('""', '"'), self.rest[end:]
-            is_closed = len(self.rest) > 1
-            self.rest = self.rest[is_closed:]
-            yield piece
-
-    def _digits(self) -> Iterator[bytes]:
-        """The pieces of a binary value, two digits a byte."""
-        self.rest = self.rest[2:]
+    def _pieces(self, begin: str, pattern: re.Pattern[str], unit: int, read: Callable[[str], Piece]) -> Iterator[Piece]:
+        """The pieces of a text in quotes, or of a binary value, of so many characters each or a multiple, behind how it begins. A quote at the
+        end of what is there may be the first of two."""
+        self.rest = self.rest[len(begin):]
         is_over = False
         while not is_over:
             self._need(2)
-            end = _end_of(DIGITS, self.rest) & ~1
-            piece, self.rest = bytes.fromhex(self.rest[:end]), self.rest[end:]
+            end = _end_of(pattern, self.rest) // unit * unit
+            piece, self.rest = read(self.rest[:end]), self.rest[end:]
             is_over = len(self.rest) > 1
+            self.rest = self.rest[is_over and begin == '"':]
             yield piece
 
 

@@ -11,9 +11,9 @@ from collections.abc import Callable
 from dataclasses import replace
 from unittest import mock
 
-from gavyreto.capturing import progress
 from gavyreto.capturing.accounts import Accounts
 from gavyreto.capturing.files import Frame
+from gavyreto.commands import capture, common
 from tests.capture_cases import ACK, PUSH, SYN, Conversation, Link, Segment, checksum, packets, pcap, words
 from tests.test_capture_cases import Read, read
 
@@ -191,14 +191,14 @@ class Frames(unittest.TestCase):
         frames = [Frame(1, RAW, b"", 0)] * 3
         for is_terminal in (True, False):
             said: list[str] = []
-            with tempfile.TemporaryFile(buffering=0) as file, mock.patch.object(progress, "SECONDS", 0), mock.patch.object(progress, "FRAMES", 1), \
-                    mock.patch.object(sys.stderr, "isatty", lambda: is_terminal), mock.patch.object(sys.stdout, "isatty", lambda: False):
+            with tempfile.TemporaryFile(buffering=0) as file, mock.patch.object(common, "SECONDS_OF_PROGRESS", -1), mock.patch.object(capture, "FRAMES", 1), \
+                    mock.patch.object(sys.stderr, "isatty", lambda: is_terminal), mock.patch.object(sys.stdout, "isatty", lambda: False), \
+                    mock.patch.object(common, "say", said.append):
                 file.write(bytes(100))
                 file.seek(50)
-                self.assertEqual(list(progress.Progress(file, Accounts(answers=7), said.append).of(iter(frames))), frames)
+                self.assertEqual(list(capture.shown(iter(frames), file, Accounts(answers=7))), frames)
             with self.subTest(is_terminal=is_terminal):
-                self.assertEqual(said[:1], ["\r50 of 100 bytes, 7 answers, 0 seconds left"] * is_terminal)
-                self.assertEqual(said[-1:], ["\r" + " " * (len(said[0]) - 1) + "\r"] if is_terminal else [])
+                self.assertEqual(said, ["\r\033[K50 of 100 bytes, 7 answers, 0 seconds left"] * 3 * is_terminal + ["\r\033[K"] * is_terminal)
 
     def test_padding_is_no_data(self) -> None:
         """Of an acknowledgement that was captured too late, too."""

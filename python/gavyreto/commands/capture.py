@@ -23,10 +23,12 @@ import contextlib
 import itertools
 import os
 import signal
+import stat
+import sys
 import tempfile
-from collections.abc import Iterable
+from collections.abc import Iterable, Iterator
 from datetime import datetime, timedelta, timezone
-from typing import Optional, cast
+from typing import IO, Optional, cast
 
 from gavyreto import tds
 from gavyreto.adapting import Adapter
@@ -36,31 +38,27 @@ from gavyreto.capturing.connections import Connections
 from gavyreto.capturing.desk import Answer, Sides
 from gavyreto.capturing.keeping import Kept, Room
 from gavyreto.capturing.messages import is_header
-from gavyreto.capturing.progress import Progress
 from gavyreto.commands.common import (
-    SIGNALS, Input, Stopped, add_options_of_program, cause_of, check_input, checked_program, command_for, folder_of_texts, line, number_in, parser_of, put, say, tell,
+    SIGNALS, Input, Progress, Stopped, add_options_of_program, cause_of, check_input, checked_program, command_for, folder_of_texts, line, number_in, parser_of, put, tell,
 )
 from gavyreto.payload import Ended
 from gavyreto.program import BAD_INPUT, FAILED, REFUSED, SERVER_ERROR, Ending, OutputFailed
 from gavyreto.tds import PacketType
 
 HEADER = ("text", "client", "server", "time", "statement", "status", "line")
+FRAMES = 256  # after so many the time is looked at
 MOST_COUNTED = 1 << 14  # connections whose number of texts is kept
 EPOCH = datetime(1970, 1, 1, tzinfo=timezone.utc)
 
 
-class Signals:
+@contextlib.contextmanager
+def signals(how: signal.Sigmasks, numbers: Iterable[int]) -> Iterator[set[int]]:
     """A context in which other signals are blocked. It gives those that were blocked before."""
-
-    def __init__(self, how: signal.Sigmasks, numbers: Iterable[int]) -> None:
-        self._how, self._numbers = how, numbers
-
-    def __enter__(self) -> set[int]:
-        self._before = signal.pthread_sigmask(self._how, self._numbers)
-        return self._before
-
-    def __exit__(self, *_: object) -> None:
-        signal.pthread_sigmask(signal.SIG_SETMASK, self._before)
+    before = signal.pthread_sigmask(how, numbers)
+    try:
+        yield before
+    finally:
+        signal.pthread_sigmask(signal.SIG_SETMASK, before)
 
 
 class Export:
@@ -161,12 +159,12 @@ def capture(asked: argparse.Namespace) -> int:
         if left:
             raise Stopped(f"{asked.out} has texts, as {left[0]}: name a folder without them", REFUSED)
         # A signal waits while the folder is made, and while it is removed, so that it doesn't leave it there.
-        with Signals(signal.SIG_BLOCK, SIGNALS) as before, tempfile.TemporaryDirectory(
-                prefix="unfinished", dir=asked.out) as folder, Signals(signal.SIG_SETMASK, before), contextlib.ExitStack() as stack:
+        with signals(signal.SIG_BLOCK, SIGNALS) as before, tempfile.TemporaryDirectory(
+                prefix="unfinished", dir=asked.out) as folder, signals(signal.SIG_SETMASK, before), contextlib.ExitStack() as stack:
             room = stack.enter_context(Room(folder, command_for(asked), not asked.packets and not asked.adapt))
             export, accounts = Export(asked, room), Accounts()
             if files.is_capture(source.head()):
-                take_capture(source, export, accounts, set(asked.port or [1433]), Progress(file, accounts, say))
+                take_capture(source, export, accounts, set(asked.port or [1433]), file)
             elif is_header(source.head(), (PacketType.ANSWER,)):
                 put(line(HEADER))
                 dumps.take_recorded(source, export, accounts)
@@ -178,12 +176,31 @@ def capture(asked: argparse.Namespace) -> int:
     return export.worst
 
 
-def take_capture(source: files.Source, export: Export, accounts: Accounts, ports: set[int], progress: Progress) -> None:
+def shown(frames: Iterator[files.Frame], file: IO[bytes], accounts: Accounts) -> Iterator[files.Frame]:
+    """The same frames; while they come, a line on a terminal says how far the capture is read, where the table goes elsewhere."""
+    found, progress = os.fstat(file.fileno()), Progress(not sys.stdout.isatty())
+
+    def line_after(seconds: float) -> str:
+        place = min(os.lseek(file.fileno(), 0, os.SEEK_CUR), found.st_size)
+        left = seconds * (found.st_size - place) / max(place, 1)
+        return f"{place} of {found.st_size} bytes, {accounts.answers} answers, {left:.0f} seconds left"
+
+    try:
+        for number, frame in enumerate(frames if progress.shows and stat.S_ISREG(found.st_mode) else ()):
+            if number % FRAMES == 0:
+                progress.show(line_after)
+            yield frame
+        yield from frames
+    finally:
+        progress.end()
+
+
+def take_capture(source: files.Source, export: Export, accounts: Accounts, ports: set[int], file: IO[bytes]) -> None:
     """Exports the answers in a capture."""
     connections, drops, cut = Connections(ports, export, accounts), files.Drops(), ""
     put(line(HEADER))
     try:
-        for frame in progress.of(files.frames(source, drops)):
+        for frame in shown(files.frames(source, drops), file, accounts):
             connections.take(frame)
     except files.CutShort as why:
         cut = str(why)

@@ -13,6 +13,7 @@ import signal
 import stat
 import sys
 import textwrap
+import time
 from typing import Any, Callable, Iterable, Iterator, Optional, Union
 
 from gavyreto import program, tds
@@ -24,6 +25,7 @@ STANDARD_INPUT, STANDARD_OUTPUT, STANDARD_ERROR = 0, 1, 2
 SIGNALS = (signal.SIGINT, signal.SIGTERM, signal.SIGHUP)  # which end a command, with a line and a status
 STREAMS = ("standard input", "standard output", "standard error")
 LONGEST_HEAD = 4096  # bytes by which a file is known
+SECONDS_OF_PROGRESS = 0.5  # between two lines, at least
 MOST_LINKS = 40  # of a name, one after the other, as Linux follows
 OF_DESCRIPTORS = "(/proc/[0-9]+)(?:/task/[0-9]+)?/fd"  # folders in which a name is a descriptor of a process
 TWO_PLACES = "are one file, opened twice: one would be written over the other; 2>&1 or >> doesn't"
@@ -84,6 +86,29 @@ def line(values: Iterable[Union[None, int, str]]) -> str:
 def cause_of(failure: OSError) -> str:
     """Why a call of the system failed."""
     return failure.strerror or str(failure) or type(failure).__name__
+
+
+class Progress:
+    """A line on a terminal, which is written anew from time to time, and taken away in the end."""
+
+    def __init__(self, is_shown: bool = True) -> None:
+        self.shows = is_shown and sys.stderr.isatty()
+        self.begin()
+
+    def begin(self) -> None:
+        """The seconds count from here on."""
+        self._began = self._last = time.monotonic()
+
+    def show(self, text: Callable[[float], str]) -> None:
+        """Shows a text, which is told the seconds so far, unless one is shown for a short time only."""
+        now = time.monotonic()
+        if self.shows and now - self._last > SECONDS_OF_PROGRESS:
+            self._last = now
+            say("\r\033[K" + text(now - self._began))
+
+    def end(self) -> None:
+        if self._last > self._began:
+            say("\r\033[K")
 
 
 # The end of a command.

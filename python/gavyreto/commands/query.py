@@ -23,8 +23,6 @@ import argparse
 import codecs
 import os
 import re
-import sys
-import time
 from io import BufferedReader
 from itertools import chain
 from typing import Callable, Iterable, Iterator, NamedTuple, NoReturn, Optional
@@ -46,7 +44,6 @@ OF_PASSWORD, OF_TOKEN = "SQLCMDPASSWORD", "SQLCMDACCESSTOKEN"  # variables
 SEPARATOR = b"\r\n"
 GO = re.compile(r"\s*GO(?:\s+(\d+))?\s*;?\s*(?:--.*)?", re.IGNORECASE | re.ASCII | re.DOTALL)
 MOST_TIMES = 2**31 - 1  # that a GO sends a statement
-SECONDS_OF_PROGRESS = 0.5  # between two lines, at least
 CHECKED_OUTPUTS = 1000  # outputs that are looked at before anything is sent
 UTF_16 = "is it UTF-16? iconv -f UTF-16 -t UTF-8 makes UTF-8 of it"
 
@@ -152,32 +149,21 @@ def encoded(statement: str) -> bytes:
 
 # Answers.
 
-class Progress:
-    """A line on a terminal, which says how much of an answer has come, as long as it comes; none where the rows go there."""
+class Coming(common.Progress):
+    """How much of an answer has come, as long as it comes."""
 
-    def __init__(self, asked: argparse.Namespace) -> None:
-        self._shows = sys.stderr.isatty() and (bool(asked.output) or not os.isatty(STANDARD_OUTPUT))
-        self._number = self._bytes = 0
-        self._began = self._last = 0.0
-
-    def begin(self, number: int) -> None:
-        self._number, self._bytes, self._began = number, 0, time.monotonic()
-        self._last = self._began
+    def begin(self, number: int = 0) -> None:
+        super().begin()
+        self._number, self._bytes = number, 0
 
     def came(self, count: int) -> None:
         self._bytes += count
-        if self._shows and (now := time.monotonic()) - self._last > SECONDS_OF_PROGRESS:
-            self._last = now
-            common.say(f"\r\033[Kanswer {self._number}: {self._bytes / 1e6:.1f} MB, {now - self._began:.0f} seconds")
-
-    def end(self) -> None:
-        if self._last > self._began:
-            common.say("\r\033[K")
+        self.show(lambda seconds: f"answer {self._number}: {self._bytes / 1e6:.1f} MB, {seconds:.0f} seconds")
 
 
 def ask(asked: argparse.Namespace, statements: Iterator[str], password: str) -> int:
     """Sends the statements, each once the answer before it is read. Returns the first status that isn't 0, or 0."""
-    places, progress, has_text = Places(asked), Progress(asked), False
+    places, progress, has_text = Places(asked), Coming(bool(asked.output) or not os.isatty(STANDARD_OUTPUT)), False
     outputs = [Opened(it) for it in places.take(1)]  # before the login: a pipe may have no reader yet
     try:
         with session_of(asked, password) as session, Program(common.command_for(asked, session.packet_size)) as run:
@@ -214,7 +200,7 @@ def ask_tables(asked: argparse.Namespace, password: str) -> int:
     return tables.export(asked, items, lambda: session_of(asked, password))
 
 
-def answered(asking: Asking, statement: str, outputs: list[Opened], before: bytes, progress: Progress) -> Ending:
+def answered(asking: Asking, statement: str, outputs: list[Opened], before: bytes, progress: Coming) -> Ending:
     """How the answer to a statement ends. Its text, behind other bytes, and its packets get their names if they are whole."""
     rows, *packets = outputs
     try:
