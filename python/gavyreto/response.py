@@ -113,8 +113,8 @@ class Response(Sets):
             self._feeding = Feeding(copy, program)
 
     def __del__(self) -> None:
-        """Ends a reading that is dropped. What is handed over in a thread doesn't keep it."""
-        if not (self._is_ended or self._is_closed or self._failure):
+        """Ends a reading that is dropped where it was begun. What is handed over in a thread doesn't keep it."""
+        if getattr(self, "_process", 0) == os.getpid() and not (self._is_ended or self._is_closed or self._failure):
             self.close()
 
     def _read(self, most: int) -> bytes:
