@@ -129,12 +129,13 @@ def meanwhile(at: int, call: Callable[[], object], come: Callable[[], object]) -
 def interrupted(at: int, call: Callable[[], object], raised: BaseException = KeyboardInterrupt()) -> bool:
     """Makes a call, to which an interrupt, or what the handler of another signal raises, comes at a line of the package. Returns whether one
     came."""
+    is_come = False
+
     def come() -> None:
         nonlocal is_come
         is_come = True
         raise raised
 
-    is_come = False
     with contextlib.suppress(type(raised), Interrupted, MalformedText):
         meanwhile(at, call, come)
     raised.__traceback__ = None
