@@ -8,7 +8,7 @@ from functools import partial
 from typing import Any, Iterator, Optional, cast
 
 from gavyreto.adapting import Adapter, Blocks
-from gavyreto.connection import ENCRYPT, LOGIN_SECONDS, SECONDS, Secret, Session, log_in_to
+from gavyreto.connection import ENCRYPT, LOGIN_SECONDS, SECONDS, Secret, Session, check_arguments, log_in_to
 from gavyreto.errors import Error, NotSupportedError, ProgrammingError
 from gavyreto.payload import Descriptions, LateDescriptions, Payload, Write
 from gavyreto.program import CHARSETS, COLUMN_ROOM, MAX_WIRE, PACKET_SIZE_ASKED, PROGRAM, Program, command_of, path_of
@@ -54,14 +54,15 @@ class Connection(Single, contextlib.AbstractContextManager["Connection"]):
         """Asks, and returns an iterator over the result sets of the answer, as `export` does with the same arguments. The
         answer has to be read to its end before the next statement; a connection whose answer isn't is closed with it.
 
-        Raises ValueError if the answer before isn't read, another thread asks, or the statement is no Unicode, OSError if the program
-        can't be started, ConnectionFailed, and BadAnswer if bytes have come that weren't asked for."""
+        Raises ValueError if the answer before isn't read, another thread asks, or the statement is no Unicode, TypeError if it is no
+        text, OSError if the program can't be started, ConnectionFailed, and BadAnswer if bytes have come that weren't asked for."""
         if not self._lock.acquire(blocking=False):
             raise ValueError("another thread asks on this connection")
         try:
             if self._answer and not self._answer.is_left:
                 raise ValueError("the answer before isn't read to its end")
             check_dates(dates)
+            check_arguments({"statement": statement}, {"adapt": adapt}, {}, ())
             run = self._run_of(command_of(program, self._session.packet_size, column_room, max_wire, charset))
             run.begin()
             self._session.send(statement)

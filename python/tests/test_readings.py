@@ -388,6 +388,14 @@ class Connections(Live):
                     with self.assertRaisesRegex(gavyreto.ConnectionFailed, f"^the connection was closed after: {line}"):
                         connection.query("x", program=PROGRAM)
 
+    def test_a_statement_that_is_none(self) -> None:
+        """It is refused before anything is sent."""
+        with serving(ORDERED) as port, connected(port) as connection:
+            for statement, kind in ((None, TypeError), (b"x", TypeError), (1, TypeError), ("\ud800", ValueError)):
+                with self.subTest(statement), self.assertRaises(kind):
+                    connection.query(cast(str, statement), program=PROGRAM)
+            self.assertEqual(len(connection.query("x", program=PROGRAM).only().fetchall()), 3)
+
     def test_an_answer_that_is_dropped(self) -> None:
         """Its connection ends, whatever is under way of it, and so does the thread that reads from that."""
         for adapt in (False, True):
