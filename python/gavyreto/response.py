@@ -5,6 +5,7 @@ import io
 import os
 import socket
 import stat
+import sys
 import threading
 from typing import Any, Callable, Optional, Protocol, Union, cast
 
@@ -91,8 +92,8 @@ class Feeding:
                 self._program.cut()
 
     def join(self) -> None:
-        """Waits for its end, unless it is the thread that calls, in which what isn't used may be looked for."""
-        if self._thread is not threading.current_thread():
+        """Waits for its end, unless it is the thread that calls, in which what isn't used may be looked for, or Python itself ends."""
+        if self._thread is not threading.current_thread() and not sys.is_finalizing():
             self._thread.join()
 
 
