@@ -22,7 +22,7 @@ TABLES
 export SQLCMDPASSWORD=secret
 rm -rf tonight
 tools/stand-in orders.tds kinds.tds float.tds -- sh -eu <<'SESSION'
-python3 -m gavyreto query -S localhost,$PORT -U reader --certificates $CERTIFICATE --adapt --tables tables.txt -j 4 --retries 3 -o tonight
+python3 -m gavyreto query -S localhost,$PORT -U reader --certificates "$CERTIFICATE" --adapt --tables tables.txt -j 4 --retries 3 -o tonight
 SESSION
 ls tonight
 cut -d, -f1-4 tonight/outcomes.csv | sort

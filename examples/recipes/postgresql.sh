@@ -41,6 +41,6 @@ rm -rf postgresql
 (
     initdb -D postgresql -A trust -E UTF8 --locale=C > initdb.log
     trap 'pg_ctl -D postgresql -m fast stop > stop.log' EXIT
-    pg_ctl -D postgresql -w -l server.log -o "-c listen_addresses= -k $PWD" start > start.log
+    pg_ctl -D postgresql -w -l server.log -o "-c listen_addresses= -k '$PWD'" start > start.log
     psql -X -q -h "$PWD" -d postgres -v ON_ERROR_STOP=1 -f orders.sql -f kinds.sql
 )

@@ -16,7 +16,7 @@ tools/response kinds > kinds.tds
 export SQLCMDPASSWORD=secret
 printf 'SELECT * FROM orders\nGO\nSELECT * FROM kinds\n' > statements.sql
 tools/stand-in orders.tds kinds.tds -- sh -eu <<'SESSION'
-python3 -m gavyreto query -S localhost,$PORT -U reader --certificates $CERTIFICATE -i statements.sql -o live{}.csv
+python3 -m gavyreto query -S localhost,$PORT -U reader --certificates "$CERTIFICATE" -i statements.sql -o live{}.csv
 SESSION
 for name in orders kinds; do tds_replay export $name.tds > $name.csv 2> $name.notes; done
 cmp live1.csv orders.csv
