@@ -410,8 +410,8 @@ class ResultSet(Single):
         """The value of a column in the next row, as a file of bytes or of text that is read once, in fixed memory however long
         the value is; None for NULL. Its `close` passes over the rest of the row, and is needed before anything else is read.
 
-        Raises StopIteration after the last row, and ValueError if the value has neither bytes nor text, or the file before
-        isn't closed."""
+        Raises StopIteration after the last row, and ValueError if the value has neither bytes nor text, whose row is passed
+        over then, or if the file before isn't closed."""
         place = self.names.index(column) if isinstance(column, str) else range(len(self.names))[column]
         return self._sets._guarded(lambda: self._open(place))
 
