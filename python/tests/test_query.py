@@ -182,7 +182,7 @@ class Answers(Live):
                     peak, seconds = query.split()
                     print(f"a value of {LONG} bytes, {encrypt} encrypted: {seconds} seconds, peak of query {peak} kilobytes, of the program {program.strip()}")
                     self.assertEqual((came.returncode, digest.split()[0]), (0, wanted.hexdigest()), came.stderr)
-                    self.assertLess(int(peak), 25_000)
+                    self.assertLess(int(peak), 26_000)
                     self.assertLess(int(program), 10_000)
         del self.servers["long",]
 
