@@ -152,7 +152,7 @@ fn whole_values_are_written(rt: HostRuntime) -> Result<(), Fail> {
 }
 
 // Text of 64 characters, the text of the last one in UTF-8, and the length of the field in less room than any text may want; none
-// where the last isn't of ASCII, or is a quote, but in UTF-16 if any text has room from the last sixteen on.
+// where the room is too little, or the last isn't whole.
 struct Tight {
     what: &'static str,
     content: Content,
@@ -162,7 +162,7 @@ struct Tight {
     made: Option<usize>,
 }
 
-const TIGHT: [Tight; 7] = [
+const TIGHT: [Tight; 8] = [
     Tight {
         what: "ASCII in UTF-16",
         content: Content::Utf16,
@@ -193,7 +193,7 @@ const TIGHT: [Tight; 7] = [
         character: &[0x61],
         last: &[0xE9],
         text: b"\xC3\xA9",
-        made: None,
+        made: Some(67),
     },
     Tight {
         what: "ASCII in UTF-8",
@@ -209,6 +209,14 @@ const TIGHT: [Tight; 7] = [
         character: &[0x61],
         last: &[0x22],
         text: b"\"\"",
+        made: Some(67),
+    },
+    Tight {
+        what: "no ASCII in Windows-1252",
+        content: Content::Windows1252,
+        character: &[0xE9],
+        last: &[0xE9],
+        text: b"\xC3\xA9",
         made: None,
     },
     Tight {
@@ -246,7 +254,7 @@ fn check_tight(alloc: Global, row: &Tight) -> Result<(), Fail> {
 }
 
 #[test]
-fn text_of_ascii_is_written_where_it_fits(rt: HostRuntime) -> Result<(), Fail> {
+fn text_is_written_where_it_fits(rt: HostRuntime) -> Result<(), Fail> {
     for row in &TIGHT {
         check_tight(rt.alloc(), row)?;
     }

@@ -73,7 +73,7 @@ pub record IsWriting {W : Type 0} (s : Sink W) : Type 0 where
 -- It takes text, and has room for that of a part of a piece.
 pub record AwaitsPart {W : Type 0} (s : Sink W) : Type 0 where
   pub writing : IsWriting s
-  pub room : 128 ≤ 4096 - length s.output.now.bytes
+  pub room : 64 ≤ 4096 - length s.output.now.bytes
 
 -- A call that puts a text: on an error a beginning of it was put. After a failure it returns the same stop and does nothing.
 pub record PutsPiece {W U : Type 0} (contents : W → Option (List ℕ)) (old new : Sink W) (text : List ℕ) (result : Result U Stop) : Type 0 where

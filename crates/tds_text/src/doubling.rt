@@ -1,5 +1,5 @@
 // Text whose quotes are doubled on the way from one slice to another.
-ghost use Rattle.std.specs.Prelude.{◌≡◌, ◌+◌, ◌<◌, ◌*◌, ◌≤◌, ◌++◌, length, take, drop};
+ghost use Rattle.std.specs.Prelude.{◌≡◌, ◌+◌, ◌<◌, ◌*◌, ◌≤◌, ◌-◌, ◌++◌, length, take, drop, IfSome};
 ghost use Rattle.tds_text.specs.Quoting.{doubled};
 
 use crate::encode::{put_doubled, put_lanes, take_before};
@@ -72,6 +72,7 @@ pub(crate) fn convert_wide(bytes: &[u8], to: &mut [u8]) -> Span
 #[inline(always)]
 fn convert_front(bytes: &[u8], to: &mut [u8]) -> Span
     ensures within { result.used ≤ length bytes.now }
+    ensures fits { result.made ≤ length to.new }
     ensures short { result.made ≤ 2 * result.used }
     ensures text { take result.made to.new ≡ doubled (take result.used bytes.now) }
 {
@@ -81,15 +82,17 @@ fn convert_front(bytes: &[u8], to: &mut [u8]) -> Span
     convert_wide(bytes, to)
 }
 
-// Writes bytes with their quotes doubled, and returns how many they are then.
-pub(crate) fn convert(bytes: &[u8], to: &mut [u8]) -> usize
-    requires { 2 * length bytes.now + LANES ≤ length to.old }
-    ensures short { result ≤ 2 * length bytes.now }
+// Goes on with the bytes, their quotes doubled, and returns how many they are then.
+#[inline(always)]
+fn convert_rest(bytes: &[u8], after: Span, to: &mut [u8]) -> usize
+    requires within { after.used ≤ length bytes.now }
+    requires room { after.made + 2 * (length bytes.now - after.used) + LANES ≤ length to.old }
+    requires before { take after.made to.old ≡ doubled (take after.used bytes.now) }
+    ensures short { result ≤ after.made + 2 * (length bytes.now - after.used) }
     ensures text { take result to.new ≡ doubled bytes.now }
 {
-    let done = convert_front(bytes, to);
-    let mut at = done.used;
-    let mut made = done.made;
+    let mut at = after.used;
+    let mut made = after.made;
     while at < bytes.len() {
         let n = take_unquoted(bytes, at, to, made);
         at += n;
@@ -101,4 +104,27 @@ pub(crate) fn convert(bytes: &[u8], to: &mut [u8]) -> usize
         at += 1;
     }
     made
+}
+
+// Writes bytes with their quotes doubled, and returns how many they are then.
+pub(crate) fn convert(bytes: &[u8], to: &mut [u8]) -> usize
+    requires { 2 * length bytes.now + LANES ≤ length to.old }
+    ensures short { result ≤ 2 * length bytes.now }
+    ensures text { take result to.new ≡ doubled bytes.now }
+{
+    let done = convert_front(bytes, to);
+    convert_rest(bytes, done, to)
+}
+
+// Writes bytes as `convert` does, if there is surely room for them.
+pub(crate) fn convert_within(bytes: &[u8], to: &mut [u8]) -> Option<usize>
+    ensures most { IfSome result (λ made. made + LANES ≤ length to.old) }
+    ensures text { IfSome result (λ made. take made to.new ≡ doubled bytes.now) }
+{
+    let done = convert_front(bytes, to);
+    let room = to.len() - done.made;
+    if room < LANES || (room - LANES) / 2 < bytes.len() - done.used {
+        return None;
+    }
+    Some(convert_rest(bytes, done, to))
 }

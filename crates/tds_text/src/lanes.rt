@@ -13,14 +13,14 @@ pub const LANES: usize = 16;
 /// How many bytes of long data are looked at together.
 pub const WIDE: usize = 32;
 
-/// How many bytes of room 32 bytes and 32 others may want whose text is longer.
-pub const PART: usize = 4 * WIDE;
+/// How many bytes of room are wanted where 32 bytes are looked at together.
+pub const PART: usize = 2 * WIDE;
 
 /// How many bytes a text in Windows-1252 has at least that is written by a call; a shorter one is better off without.
 pub(crate) const MANY: usize = 2 * WIDE;
 
 /// How many characters are taken one by one if the next one needs care, since then others mostly do too.
-pub(crate) const BY_HAND: usize = 32;
+pub(crate) const BY_HAND: usize = 8;
 
 // The lowest bit that is set in a mask, or the number of lanes.
 #[inline(always)]

@@ -1,5 +1,5 @@
-// The field of text at the end of the room: text of ASCII without quotes, for which there is a byte for each character and a few more.
-// Text in UTF-16 may end with other characters, if there is room for any.
+// The field of text where there isn't room for any of that length: text of ASCII without quotes, for which there is a byte for each
+// character and a few more, and other text if any has room from some place on.
 ghost use Rattle.std.specs.Prelude.{◌≡◌, ◌+◌, ◌*◌, ◌/◌, ◌%◌, ◌≤◌, length, take, true, IfSome, Some};
 ghost use Rattle.tds_text.specs.Conversion.{Utf16Text, Utf8Text, Windows1252Text};
 ghost use Rattle.tds_text.specs.Fields.{FieldWritten, conversion_of};
@@ -11,15 +11,19 @@ use crate::encode::{put_lanes, take_plain};
 use crate::fields::{Content, close_quoted};
 use crate::framing::QUOTE;
 use crate::lanes::{LANES, WIDE, wide_stops};
-use crate::lanes_utf16::{MANY_UNITS, UNITS, are_all_plain};
-use crate::utf16::{convert_plain, convert_whole};
+use crate::lanes_utf16::{MANY_UNITS, UNITS, units_of, wide_units};
+use crate::utf16::{convert_plain, convert_whole, convert_within};
+use crate::{utf8, windows_1252};
 use std::simd::prelude::*;
 
 // How many bytes of room such a field wants besides one for each character.
 const SPARE: usize = 50;
 
-// Writes the text of whole data in UTF-16, if its first sixteen units are characters of ASCII and no quotes, and the others too, up to
-// where there is room for any text of those that are left.
+// How many of the first eight units of text in UTF-16 may have longer texts: of text with more there is seldom room for all.
+const MOST_WIDE: u32 = 2;
+
+// Writes the text of whole data in UTF-16, if most of its first eight units have a byte of text each, up to where there is room for
+// any text of those that are left.
 #[inline(always)]
 fn convert_utf16(bytes: &[u8], to: &mut [u8]) -> Option<usize>
     requires many { WIDE ≤ length bytes.now }
@@ -29,15 +33,15 @@ fn convert_utf16(bytes: &[u8], to: &mut [u8]) -> Option<usize>
     ensures text { IfSome result (λ made. take made to.new ≡ utf16.text bytes.now) }
 {
     let front = u8x16::from_slice(bytes);
-    let next = u8x16::from_slice(&bytes[LANES..]);
-    if !are_all_plain(front, next) {
+    if wide_units(units_of(front)).count_ones() > MOST_WIDE {
         return None;
     }
     let few = bytes.len() / 2 % MANY_UNITS;
     let some = few % UNITS;
     let first = put_units(to, 0, front, some)?;
     let second = put_units(to, first, u8x16::from_slice(&bytes[2 * some..]), few - some)?;
-    let run = convert_plain(bytes, 2 * few, bytes.len(), to, second);
+    let plain = convert_plain(bytes, 2 * few, bytes.len(), to, second);
+    let run = convert_within(bytes, plain.used, to, plain.made);
     let (rest, room) = (&bytes[run.used..], &mut to[run.made..]);
     if rest.len() + rest.len() / 2 + LANES > room.len() {
         return None;
@@ -100,21 +104,40 @@ fn put_plain(bytes: &[u8], source: &[u8], to: &mut [u8]) -> bool
     true
 }
 
-// Writes text in Windows-1252 and UTF-8, the first `n` of these bytes, as a field.
-fn write_bytes(source: &[u8], n: usize, to: &mut [u8]) -> Option<usize>
+// Writes text in Windows-1252, the first `n` of these bytes, as a field.
+#[tactic(auto, using(crate::proofs::QuotedFields::quoted, crate::proofs::Singles::plain_text, std::proofs::lemmas::Grind::common_steps))]
+fn write_windows_1252(source: &[u8], n: usize, to: &mut [u8]) -> Option<usize>
     requires within { n ≤ length source.now }
     ensures most { IfSome result (λ made. made + 2 ≤ length to.old) }
-    ensures windows_1252 { IfSome result (λ made. FieldWritten Windows1252Text (take n source.now) to.new (Some made)) }
-    ensures utf8 { IfSome result (λ made. FieldWritten Utf8Text (take n source.now) to.new (Some made)) }
+    ensures field { IfSome result (λ made. FieldWritten Windows1252Text (take n source.now) to.new (Some made)) }
 {
     if to.len() < n + SPARE {
         return None;
     }
     to[0] = QUOTE;
-    if !put_plain(&source[..n], source, &mut to[1..]) {
+    if put_plain(&source[..n], source, &mut to[1..]) {
+        return Some(close_quoted(to, 1 + n));
+    }
+    let made = windows_1252::convert_within(&source[..n], source, &mut to[1..])?;
+    Some(close_quoted(to, 1 + made))
+}
+
+// Writes text in UTF-8, the first `n` of these bytes, as a field.
+#[tactic(auto, using(crate::proofs::QuotedFields::quoted, std::proofs::lemmas::Grind::common_steps))]
+fn write_utf8(source: &[u8], n: usize, to: &mut [u8]) -> Option<usize>
+    requires within { n ≤ length source.now }
+    ensures most { IfSome result (λ made. made + 2 ≤ length to.old) }
+    ensures field { IfSome result (λ made. FieldWritten Utf8Text (take n source.now) to.new (Some made)) }
+{
+    if to.len() < n + SPARE {
         return None;
     }
-    Some(close_quoted(to, 1 + n))
+    to[0] = QUOTE;
+    if put_plain(&source[..n], source, &mut to[1..]) {
+        return Some(close_quoted(to, 1 + n));
+    }
+    let made = utf8::convert_within(&source[..n], &mut to[1..])?;
+    Some(close_quoted(to, 1 + made))
 }
 
 /// Writes the field of a whole value as [`write_field`](crate::write_field) does, for which there isn't the room that any text
@@ -128,6 +151,7 @@ pub(crate) fn write_tight(content: Content, source: &[u8], n: usize, to: &mut [u
     match content {
         Content::Binary => None,
         Content::Utf16 => write_utf16(source, n, to),
-        Content::Windows1252 | Content::Utf8 => write_bytes(source, n, to),
+        Content::Windows1252 => write_windows_1252(source, n, to),
+        Content::Utf8 => write_utf8(source, n, to),
     }
 }

@@ -187,6 +187,28 @@ fn convert_full(bytes: &[u8], last: usize, from: usize, to: &mut [u8], start: us
     Span { used: at, made }
 }
 
+// Goes on with the text by eight units, as long as none is a surrogate and there is room for any text of eight.
+#[inline(always)]
+pub(crate) fn convert_within(bytes: &[u8], from: usize, to: &mut [u8], start: usize) -> Span
+    requires fits { start ≤ length to.old }
+    requires before { Converts bytes.now to.old from start }
+    ensures fits { result.made ≤ length to.old }
+    ensures whole { result.used % 2 ≡ from % 2 }
+    ensures after { Converts bytes.now to.new result.used result.made }
+{
+    let mut at = from;
+    let mut made = start;
+    while bytes.len() - at >= LANES && to.len() - made >= 3 * UNITS + LANES {
+        let lanes = u8x16::from_slice(&bytes[at..]);
+        let Some(end) = put_units(to, made, lanes, UNITS) else {
+            break;
+        };
+        at += LANES;
+        made = end;
+    }
+    Span { used: at, made }
+}
+
 // Goes on with the text by the next `n` units, if none of these is a surrogate. What comes after the bytes in the source may be
 // looked at.
 #[inline(always)]

@@ -1,5 +1,5 @@
 // Text in UTF-8, and where bytes stop being it.
-ghost use Rattle.std.specs.Prelude.{◌≡◌, ◌+◌, ◌*◌, ◌≤◌, length, take, is_some, if◌then◌else◌, IfSome};
+ghost use Rattle.std.specs.Prelude.{◌≡◌, ◌+◌, ◌*◌, ◌≤◌, length, take, is_some, true, if◌then◌else◌, IfSome};
 ghost use Rattle.std.specs.Str.{is_utf8};
 ghost use Rattle.std.specs.Int.{is_in_range};
 ghost use Rattle.tds_text.specs.Joining.{emit};
@@ -80,6 +80,19 @@ fn convert_judged(bytes: &[u8], to: &mut [u8]) -> Option<usize>
         return None;
     }
     Some(doubling::convert(bytes, to))
+}
+
+// Writes the text of bytes, if there is surely room for it, and returns its length. `None` also if they are no text.
+#[inline(never)]
+pub(crate) fn convert_within(bytes: &[u8], to: &mut [u8]) -> Option<usize>
+    ensures most { IfSome result (λ made. made + LANES ≤ length to.old) }
+    ensures fit { IfSome result (λ _. is_utf8 bytes.now ≡ true) }
+    ensures text { IfSome result (λ made. take made to.new ≡ utf8.text bytes.now) }
+{
+    if simdutf8::compat::from_utf8(bytes).is_err() {
+        return None;
+    }
+    doubling::convert_within(bytes, to)
 }
 
 // Writes the text of bytes, and returns its length. `None` if they are no text. What follows them in the source may be looked at.

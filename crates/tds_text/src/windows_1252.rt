@@ -1,5 +1,5 @@
 // Text in Windows-1252, converted from one slice to another.
-ghost use Rattle.std.specs.Prelude.{◌≡◌, ◌+◌, ◌*◌, ◌<◌, ◌≤◌, [], ◌∷◌, ◌++◌, ◌-◌, length, take, drop, slice_index};
+ghost use Rattle.std.specs.Prelude.{◌≡◌, ◌+◌, ◌*◌, ◌<◌, ◌≤◌, [], ◌∷◌, ◌++◌, ◌-◌, length, take, drop, slice_index, IfSome};
 ghost use Rattle.std.specs.Int.{to_le_bytes, w32};
 ghost use Rattle.tds_text.specs.Plain.{LiesIn};
 ghost use Rattle.tds_text.specs.Windows1252 as windows_1252;
@@ -85,22 +85,6 @@ fn take_wide(bytes: &[u8], at: usize, to: &mut [u8], made: usize) -> usize
     take_before(bytes, at, wide_stops(bytes, at), to, made)
 }
 
-// Where the bytes end that are taken one by one, after `taken` bytes that were taken together.
-#[inline(always)]
-fn end_by_hand(bytes: &[u8], at: usize, taken: usize) -> usize
-    requires { at ≤ length bytes.now }
-    ensures from { at ≤ result }
-    ensures within { result ≤ length bytes.now }
-    ensures few { result ≤ at + BY_HAND }
-    ensures more { at < length bytes.now → at < result }
-{
-    if taken == 0 {
-        bytes.len().min(at + BY_HAND)
-    } else {
-        bytes.len().min(at + 1)
-    }
-}
-
 // Goes on with the text of the bytes up to a place, a byte at a time, and returns how long it is then.
 #[inline(always)]
 #[tactic(auto, using(crate::proofs::SingleLaws::windows_1252_laws, std::proofs::lemmas::Grind::common_steps))]
@@ -121,7 +105,7 @@ fn convert_by_hand(bytes: &[u8], from: usize, end: usize, to: &mut [u8], start: 
     made
 }
 
-// Writes the text of the bytes, as long as 32 of them are left and there is room for any text of 32 and 32 more.
+// Writes the text of the bytes, as long as 32 of them are left and there are 64 bytes of room.
 #[inline(never)]
 pub(crate) fn convert_wide(bytes: &[u8], to: &mut [u8]) -> Span
     ensures within { result.used ≤ length bytes.now }
@@ -143,9 +127,13 @@ pub(crate) fn convert_wide(bytes: &[u8], to: &mut [u8]) -> Span
         if n == WIDE {
             continue;
         }
-        let end = end_by_hand(bytes, at, n);
-        made = convert_by_hand(bytes, at, end, to, made);
-        at = end;
+        if n > 0 {
+            made = put_text(to, made, bytes[at]);
+            at += 1;
+            continue;
+        }
+        made = convert_by_hand(bytes, at, at + BY_HAND, to, made);
+        at += BY_HAND;
     }
     Span { used: at, made }
 }
@@ -154,6 +142,7 @@ pub(crate) fn convert_wide(bytes: &[u8], to: &mut [u8]) -> Span
 #[inline(always)]
 fn convert_front(bytes: &[u8], to: &mut [u8]) -> Span
     ensures within { result.used ≤ length bytes.now }
+    ensures fits { result.made ≤ length to.new }
     ensures text { windows_1252.Converts bytes.now to.new result.used result.made }
 {
     if bytes.len() < MANY {
@@ -166,10 +155,10 @@ fn convert_front(bytes: &[u8], to: &mut [u8]) -> Span
 #[inline(always)]
 fn convert_rest(bytes: &[u8], source: &[u8], after: Span, to: &mut [u8]) -> usize
     requires source { LiesIn bytes.now source.now }
-    requires room { 3 * length bytes.now + LANES ≤ length to.old }
-    requires before { windows_1252.Converts bytes.now to.old after.used after.made }
     requires within { after.used ≤ length bytes.now }
-    ensures short { result ≤ 3 * length bytes.now }
+    requires room { after.made + 3 * (length bytes.now - after.used) + LANES ≤ length to.old }
+    requires before { windows_1252.Converts bytes.now to.old after.used after.made }
+    ensures short { result ≤ after.made + 3 * (length bytes.now - after.used) }
     ensures text { take result to.new ≡ windows_1252.text bytes.now }
 {
     let mut at = after.used;
@@ -210,4 +199,18 @@ pub(crate) fn convert(bytes: &[u8], source: &[u8], to: &mut [u8]) -> usize
 {
     let done = convert_front(bytes, to);
     convert_rest(bytes, source, done, to)
+}
+
+// Writes the text of bytes as `convert` does, if there is surely room for it.
+pub(crate) fn convert_within(bytes: &[u8], source: &[u8], to: &mut [u8]) -> Option<usize>
+    requires source { LiesIn bytes.now source.now }
+    ensures most { IfSome result (λ made. made + LANES ≤ length to.old) }
+    ensures text { IfSome result (λ made. take made to.new ≡ windows_1252.text bytes.now) }
+{
+    let done = convert_front(bytes, to);
+    let room = to.len() - done.made;
+    if room < LANES || (room - LANES) / 3 < bytes.len() - done.used {
+        return None;
+    }
+    Some(convert_rest(bytes, source, done, to))
 }

@@ -4,8 +4,8 @@ use N.{◌≡◌, ◌∙◌, ◌≤◌, ◌++◌, ◌+◌, ◌-◌, ◌*◌, ◌
 use borrow.Rule.Slice.PartMut.{put_mid}
 use N.WideText.{lies_itself, none_converted, units_more}
 
-pub convert_plain-run-requires-clause-before : goal.convert_plain-run-requires-clause-before
-convert_plain-run-requires-clause-before c =
+pub convert_plain-plain-requires-clause-before : goal.convert_plain-plain-requires-clause-before
+convert_plain-plain-requires-clause-before c =
     let bytes = c.args.bytes.now in
     let few = length bytes / 2 % 16 in
     let some = few % 8 in
@@ -24,7 +24,7 @@ take_put a k n xs ys within few = grind (N.arith, N.length-take-le, N.take-appen
 
 pub returns-clause-text : goal.returns-clause-text
 returns-clause-text c =
-    let run = c.convert_plain-run in
+    let run = c.convert_within-run in
     let to = run.new.to in
     let more = rw (N.UsualText.rest_of) at c.convert_whole.ensures.text in
     let all = N.Utf16Steps.whole_after run.ensures.after c.requires.whole (omega N.arith) in

@@ -6,6 +6,7 @@ use Rattle.tds_text.specs.Windows1252 as windows_1252
 pub loop-at-preserved-then-n-eq-LANES : goal.loop-at-preserved-then-n-eq-LANES
 loop-at-preserved-then-n-eq-LANES c =
     record {
+      from = omega N.arith;
       within = omega N.arith;
       long = search N.rules;
       room = omega N.arith;
@@ -16,6 +17,7 @@ loop-at-preserved-then-n-eq-LANES c =
 pub loop-at-preserved : goal.loop-at-preserved
 loop-at-preserved c =
     record {
+      from = omega N.arith;
       within = omega N.arith;
       long = search N.rules;
       room = omega N.arith;

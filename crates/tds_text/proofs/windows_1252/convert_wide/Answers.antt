@@ -1,6 +1,6 @@
 use Rattle.tds_text.proofs as N
 use N.windows_1252.convert_wide.Goals as goal
-use N.Singles.{text_taken}
+use N.Singles.{one_taken, text_taken}
 use Rattle.tds_text.specs.Windows1252 as windows_1252
 
 pub convert_by_hand-made-requires-clause-before : goal.convert_by_hand-made-requires-clause-before
@@ -17,4 +17,14 @@ loop-at-preserved-then-n-eq-WIDE c =
       fits = search N.rules;
       room = omega N.arith;
       text = text_taken windows_1252.text N.SingleLaws.windows_1252-append _ _ _ c.take_wide-n.ensures.taken c.loop-at.invariant.text;
+    }
+
+pub loop-at-preserved-then-n-gt0 : goal.loop-at-preserved-then-n-gt0
+loop-at-preserved-then-n-gt0 c =
+    record {
+      within = omega N.arith;
+      fits = search N.rules;
+      room = omega N.arith;
+      text = one_taken windows_1252.text N.SingleLaws.windows_1252-append c.args.bytes.now _ (search N.arith) c.put_text-made.ensures.written
+          (text_taken windows_1252.text N.SingleLaws.windows_1252-append _ _ _ c.take_wide-n.ensures.taken c.loop-at.invariant.text);
     }

@@ -1,13 +1,14 @@
 use Rattle.tds_text.proofs as N
-use N.doubling.convert.Given as goal
+use N.doubling.convert_rest.Given as goal
 use N.{◌≡◌, ◌*◌, ◌-◌, ◌≤◌, ◌+◌, length}
 
 -- the text so far is that of the bytes so far
 abbrev pub invariant-loop-at : goal.invariant-loop-at
 invariant-loop-at l = record {
+  from : l.fn.after.used ≤ l.at;
   within : l.at ≤ length l.bytes;
-  long : 2 * length l.bytes + 16 ≤ length l.to;
-  room : l.made ≤ 2 * l.at;
+  long : l.fn.after.made + 2 * (length l.bytes - l.fn.after.used) + 16 ≤ length l.to;
+  room : l.made ≤ l.fn.after.made + 2 * (l.at - l.fn.after.used);
   text : N.take l.made l.to ≡ N.doubled (N.take l.at l.bytes);
 }
 

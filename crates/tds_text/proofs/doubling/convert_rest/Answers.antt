@@ -1,5 +1,5 @@
 use Rattle.tds_text.proofs as N
-use N.doubling.convert.Goals as goal
+use N.doubling.convert_rest.Goals as goal
 use N.JoiningLemmas.{doubled-append}
 use N.Singles.{text_taken}
 
@@ -12,6 +12,7 @@ loop-at-preserved c =
 pub loop-at-preserved-then-n-eq-LANES : goal.loop-at-preserved-then-n-eq-LANES
 loop-at-preserved-then-n-eq-LANES c =
     record {
+      from = omega N.arith;
       within = omega N.arith;
       long = search N.rules;
       room = omega N.arith;
