@@ -1,25 +1,21 @@
 -- How much of a description was held in an export: no more than the span of one at the front of the input.
 use Rattle.tds_export.proofs as N
-use N.{List, Part, Run, arith, inl, inr, more, ℕ, ◌++◌, ◌+◌, ◌-◌, ◌∙◌, ◌≡◌, ◌≤◌, ◌⊎◌, limits}
+use N.{List, Part, Run, arith, inl, inr, more, ℕ, ◌++◌, ◌≡◌, ◌≤◌, limits}
 
 -- a part of a response was read from whole packets at the front of an input
 pub record Reached (run : Run) (at : Part) : Type 0 where
-  pub packets : List N.Packet
   pub rest : List ℕ
-  pub begin : N.wire_of packets ++ rest ≡ run.input
-  pub each : N.AreMessage (limits run).packet_size packets ⊎ N.AreBefore (limits run).packet_size packets
-  pub within : N.length (N.wire_of packets) ≤ (limits run).max_wire
   pub bytes : List ℕ
   pub more : List ℕ
+  pub begins : N.BeginsMessage (limits run).packet_size (limits run).max_wire run.input rest (bytes ++ more)
   pub spelt : N.Spelt (N.grammar run) N.response_start bytes at
-  pub payload_is : N.payload_of packets ≡ bytes ++ more
 
 pub bounded : {run : Run} {at : Part} → N.AreBytes run.input → Reached run at → run.given.after.areas.description.peak ≤ N.span_so_far at → N.Bounded run
 bounded {run} {at} are r peak =
     let size = (limits run).packet_size in
     let g = N.grammar run in
     let l = N.some_longest (N.wire size ((limits run).max_wire)) N.no_wire run.input in
-    let b = N.AcceptedSucceeds.front_begins size r.rest r.packets r.begin r.each r.within l.2 in
+    let b = N.AcceptedSucceeds.front_begins size r.rest _ r.begins.begin r.begins.each r.begins.within l.2 in
     let split : N.payload_of l.1.packets ≡ r.bytes ++ (r.more ++ N.payload_of b.0) = grind (arith, N.flat_map-append, N.append_assoc) in
     let longest = N.some_longest g _ _ in
     let f = N.AcceptedSucceeds.further g _ at longest.1 r.bytes (r.more ++ N.payload_of b.0) longest.0 r.spelt (grind arith) in

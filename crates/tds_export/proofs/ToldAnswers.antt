@@ -2,7 +2,7 @@
 use Rattle.tds_export.proofs as N
 use N.{AreBytes, Bool, ExportInput, SinkView, IsWriter, List, Ok, Packet, Part, Puts, Run, PayloadView, Some, Spelt, Stop, [], ap, append-nil, arith, drop}
 use N.{fresh_at, grammar, inl, inr, length, length-append, limits, more, payload_of, read, refl, response, response_start, run_of, subst, sym, take}
-use N.{text, text_put, text_so_far, wire_of, ℕ, ◌%◌, ◌*◌, ◌++◌, ◌+◌, ◌-◌, ◌/◌, ◌<◌, ◌∙◌, ◌∷◌, ◌≡◌, ◌≤◌}
+use N.{text, text_put, text_so_far, wire_of, ℕ, ◌*◌, ◌++◌, ◌+◌, ◌-◌, ◌/◌, ◌<◌, ◌∙◌, ◌∷◌, ◌≡◌, ◌≤◌}
 use N.Words.{Tells}
 use N.SomeBytes.{AreBytes-append}
 use N.Peaks.{Reached, bounded, reached_stopped}
@@ -119,17 +119,8 @@ broken {run} {q} {k} {at} side writer x holds gained all =
       within = omega (arith, ap length payload_is, length-append be more);
       spelt = rw (ap (take (length be)) payload_is ∙ N.take-append_seam be more) spelt;
     } in
-    let reached : Reached run to = record {
-      packets = b.packets;
-      rest = run.left;
-      begin = b.begin;
-      each = b.each;
-      within = b.within;
-      bytes = be;
-      more = more;
-      spelt = spelt;
-      payload_is = payload_is;
-    } in (
+    let reached : Reached run to =
+    record { rest = _; bytes = _; more = _; begins = rw (N.append_assoc be x.ahead (q.future []).bytes) at b; spelt = spelt } in (
       record {
         packets = b.packets;
         place = longest.0;

@@ -49,7 +49,7 @@ pub use Rattle.tds_packet.proofs.ElementLaws.{Spelt-induct, feed-Spelt, feed_all
 pub use Rattle.tds_packet.proofs.ElementLaws.{Spelt-none, Inside, Inside-Spelt, AreBytes-front, AreBytes-back, longest_refused, Spelt-one, some_longest}
 pub use Rattle.tds_packet.proofs.ElementLaws.{one_state, refused_for_good, no_further}
 pub use Rattle.tds_packet.proofs.Feeding.{Reading, feed_all, read, state_of, rest_of, fault_of}
-pub use Rattle.tds_packet.proofs.Fronts.{EndsMessage, StopsAfterPackets, in_last, takes_begins, ends_front, over_front, wire_goes_on}
+pub use Rattle.tds_packet.proofs.Fronts.{BeginsMessage, EndsMessage, StopsAfterPackets, in_last, takes_begins, ends_front, over_front, wire_goes_on}
 pub use Rattle.tds_packet.proofs.Futures.{Ends-after, Takes-none, Takes-trans}
 pub use Rattle.tds_packet.proofs.InnerGrammars.{reads_inside, stops_inside, last_inside}
 pub use Rattle.tds_packet.proofs.Joins.{Stays-none}
