@@ -1,6 +1,6 @@
 -- What an export answers of an accepted response: it succeeds, but for a device that fails.
 use Rattle.tds_export.proofs as N
-use N.{Fault, List, Packet, Run, Some, Spelt, Token, [], ap, arith, inl, inr, length, more, wire, wire_of, ℕ, ◌++◌, ◌+◌}
+use N.{Fault, List, Packet, Run, Spelt, Token, [], ap, arith, inl, inr, length, more, wire, wire_of, ℕ, ◌++◌, ◌+◌}
 use N.{◌-◌, ◌==◌, ◌⊎◌, ◌∙◌, ◌∷◌, ◌≡◌, ◌≤◌}
 use N.Words.{Told}
 use N.ResponseLaws.{one_accepted, refused_response, response_is_read}

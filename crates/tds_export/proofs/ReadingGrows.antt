@@ -1,6 +1,6 @@
 -- What is read grows by each element: the text so far, and the greatest span.
 use Rattle.tds_export.proofs as N
-use N.{Grows, IsNext, List, None, Open, Part, Token, [], arith, begun, grows_same, row, text, text_so_far, ℕ, ◌++◌, ◌==◌, ◌∷◌, ◌≡◌, ◌≤◌}
+use N.{Grows, IsNext, List, None, Open, Part, Token, [], arith, grows_same, text, text_so_far, ℕ, ◌++◌, ◌==◌, ◌∷◌, ◌≡◌, ◌≤◌}
 use N.ResponseLaws.{part_at}
 
 -- what a token byte other than that of a row begins

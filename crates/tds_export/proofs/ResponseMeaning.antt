@@ -1,6 +1,6 @@
 -- What the bytes that lead to a part of a response spell.
 use Rattle.tds_export.proofs as N
-use N.{Bool, Column, Lead, List, None, Option, Some, Token, [], ap, arith, drop, false, if◌then◌else◌, lead, length, message, refl, take, true, ℕ, ◌%◌, ◌&&◌}
+use N.{Bool, Column, Lead, List, None, Option, Some, Token, [], ap, arith, drop, false, lead, length, message, refl, take, true, ℕ, ◌%◌}
 use N.{◌*◌, ◌++◌, ◌+◌, ◌/◌, ◌<◌, ◌∙◌, ◌∷◌, ◌≡◌, ◌≤◌}
 use N.ResponseLaws.{ReturnMeans, return_step, part_at, IsFree, parts_within}
 

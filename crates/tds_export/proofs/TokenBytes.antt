@@ -1,7 +1,7 @@
 -- Tokens by their first bytes.
 use Rattle.tds_export.proofs as N
-use N.{Bool, Cell, IsNext, List, None, Row, RowsPart, Some, Token, [], ap, append_assoc, arith, before, if◌then◌else◌, length, map, refl, response, rows, sym}
-use N.{text, true, with_row, ℕ, ◌++◌, ◌+◌, ◌==◌, ◌∙◌, ◌∷◌, ◌≡◌, Charset, SinkView, Part, PayloadView, after_tokens, between, ◌-◌, ◌<◌, ◌^◌, ◌≤◌, columns_of}
+use N.{Bool, Cell, IsNext, List, None, Row, RowsPart, Some, Token, [], ap, append_assoc, arith, before, length, map, refl, response, rows, sym}
+use N.{text, true, with_row, ℕ, ◌++◌, ◌+◌, ◌∙◌, ◌∷◌, ◌≡◌, Charset, SinkView, Part, PayloadView, after_tokens, between, ◌-◌, ◌<◌, ◌^◌, ◌≤◌, columns_of}
 use N.{Stop}
 use N.TokenSteps.{OpenTexts, holds-snoc, quietly, row_stops, stops_further, same_text, start_text, stops_quietly}
 use N.TokenLaws.{text_after-snoc, tracks_row, with_rows}

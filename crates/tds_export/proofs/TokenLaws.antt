@@ -1,7 +1,7 @@
 -- What one more token adds to a response.
 use Rattle.tds_export.proofs as N
 use N.{Bool, Error, List, Metadata, Row, Token, Tracks, [], arith, before, begun, false, first_error, how_many, is_final, more, passed, refl, text_after, true}
-use N.{ℕ, ◌++◌, ◌+◌, ◌<◌, ◌∙◌, ◌∷◌, ◌≡◌}
+use N.{ℕ, ◌++◌, ◌+◌, ◌<◌, ◌∷◌, ◌≡◌}
 
 -- whether a set has begun after these tokens
 abbrev pub begun_after : Bool → List Token → Bool

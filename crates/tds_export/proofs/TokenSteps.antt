@@ -1,7 +1,7 @@
 -- The tokens, as they are read and their text is put.
 use Rattle.tds_export.proofs as N
 use N.{Bool, Charset, Fault, Grammar, SinkView, IsHolding, List, Option, Part, Progress, Report, PayloadView, Space, Stop, Token, View, [], ap, append-nil}
-use N.{arith, between, false, in_metadata, inl, inr, length, refl, sym, text, text_so_far, view_of, with_row, ℕ, ◌%◌, ◌++◌, ◌+◌, ◌-◌, ◌<◌, ◌==◌, ◌^◌, ◌∙◌, ◌∷◌}
+use N.{arith, between, false, in_metadata, inl, inr, length, refl, sym, text, text_so_far, view_of, with_row, ℕ, ◌++◌, ◌+◌, ◌-◌, ◌<◌, ◌^◌, ◌∙◌, ◌∷◌}
 use N.{◌≡◌, ◌≤◌}
 use N.TokenLaws.{bare, bare_fixed, begun_after, begun_where_sets, encoded_after-append, greatest_span-append, is_bare, same_first, text_after-snoc, tracked}
 use N.ResponseLaws.{description_agrees, row_agrees, part_at, inside, read_inside, stop_inside}

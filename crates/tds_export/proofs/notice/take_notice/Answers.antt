@@ -1,6 +1,6 @@
 use Rattle.tds_export.proofs as N
 use N.notice.take_notice.Goals as goal
-use N.{rules, ◌∙◌, ◌≡◌}
+use N.{rules, ◌≡◌}
 use N.Bodies.{body_taken}
 
 pub returns-in_err-fill-clause-gives : goal.returns-in_err-fill-clause-gives

@@ -1,6 +1,6 @@
 use Rattle.tds_export.proofs as N
 use N.exporter.Exporter.return_status.Goals as goal
-use N.{refl, rules, ◌++◌, ◌+◌, ◌∙◌, ◌∷◌, ◌≡◌}
+use N.{refl, rules, ◌++◌, ◌∙◌, ◌∷◌, ◌≡◌}
 
 tracks_status : {s : N.Progress} {ts : N.List N.Token} (n : N.ℕ) {status : N.ℤ} → status ≡ N.signed n → N.TracksBefore s ts
     → N.Tracks (record s { report = record s.report { return_status = N.Some status } }) (ts ++ N.ReturnStatus n ∷ N.[])
