@@ -1,10 +1,10 @@
 -- What completes a cell and a row is read as their rest.
 use Rattle.tds_export.proofs as N
 use N.{Bool, Cell, CellPart, ChunkData, ChunkLength, Column, Conversion, Kind, List, None, Null, Option, ShortData, Some, Spelt, Time, WholeCell, WholeRow}
-use N.{Windows1252, [], arith, before, bit, cell, false, is_valid, length, marked, refl, row, suc, true, unit, zero, zeros, ℕ, ⊤, ◌%◌, ◌&&◌, ◌++◌, ◌+◌, ◌<◌}
+use N.{Windows1252, [], arith, before, bit, cell, false, is_valid, length, marked, refl, row, suc, true, unit, zero, zeros, ℕ, ⊤, ◌%◌, ◌++◌, ◌+◌, ◌<◌}
 use N.{◌∙◌, ◌∷◌, ◌≡◌, ◌≤◌}
 use N.ResponseLaws.{spelt_both, spelt_one}
-use N.SomeBytes.{exactly}
+use N.SomeBytes.{Ends, exactly, then_ends}
 
 -- the conversions that Windows-1252 names: none judges data before its end
 abbrev pub is_plain : Conversion → Bool
@@ -27,17 +27,6 @@ CellReached (ChunkLength c total content) = (is_plain c ≡ true) × HoldsTotal 
 CellReached (ChunkData c total left content) = (is_plain c ≡ true) × HoldsTotal c total (length content + (left + 1))
 CellReached (WholeCell x) = ⊤
 
--- numbers up to 7
-below_eight : (P : ℕ → Bool) → (P 0 && P 1 && P 2 && P 3 && P 4 && P 5 && P 6 && P 7) ≡ true → (s : ℕ) → s ≤ 7 → P s ≡ true
-below_eight = grind arith
-
--- a value was read
-abbrev IsRead : N.Result N.ScalarValue N.ValueFault → Type 0
-IsRead r = (v : N.ScalarValue) × (r ≡ N.Ok v)
-
-value_there : (r : N.Result N.ScalarValue N.ValueFault) → N.is_ok r ≡ true → IsRead r
-value_there r h = grind arith
-
 -- whether so many zeros are a value of a kind
 abbrev are_read : Kind → ℕ → Bool
 are_read kind n = N.is_ok (N.read_of kind (zeros n))
@@ -46,12 +35,16 @@ are_read kind n = N.is_ok (N.read_of kind (zeros n))
 abbrev ZerosAre : Kind → ℕ → Type 0
 ZerosAre kind n = are_read kind n ≡ true
 
+-- what is tested of each scale
+at_each_scale : (P : ℕ → Bool) → N.agree_below P (λ _. true) 8 ≡ true → {scale : ℕ} → is_valid (Time scale) ≡ true → P scale ≡ true
+at_each_scale P all {scale} most = grind (arith, N.agree_below_at, N.le_true)
+
 zeros_are_a_value : (kind : Kind) (n : ℕ) → is_valid kind ≡ true → N.is_scalar kind ≡ true → N.is_length_allowed kind n ≡ true → ZerosAre kind n
-zeros_are_a_value (Time sc) n v s h = exactly (ZerosAre (Time sc)) n _ h (below_eight (λ sc. are_read (Time sc) (N.time_length sc)) refl _ (N.le_true _ 7 v))
+zeros_are_a_value (Time sc) n v s h = exactly (ZerosAre (Time sc)) n _ h (at_each_scale (λ sc. are_read (Time sc) (N.time_length sc)) refl v)
 zeros_are_a_value (N.DateTime2 sc) n v s h =
-    exactly (ZerosAre (N.DateTime2 sc)) n _ h (below_eight (λ sc. are_read (N.DateTime2 sc) (N.time_length sc + 3)) refl _ (N.le_true _ 7 v))
+    exactly (ZerosAre (N.DateTime2 sc)) n _ h (at_each_scale (λ sc. are_read (N.DateTime2 sc) (N.time_length sc + 3)) refl v)
 zeros_are_a_value (N.DateTimeOffset sc) n v s h =
-    exactly (ZerosAre (N.DateTimeOffset sc)) n _ h (below_eight (λ sc. are_read (N.DateTimeOffset sc) (N.time_length sc + 5)) refl _ (N.le_true _ 7 v))
+    exactly (ZerosAre (N.DateTimeOffset sc)) n _ h (at_each_scale (λ sc. are_read (N.DateTimeOffset sc) (N.time_length sc + 5)) refl v)
 zeros_are_a_value kind n v s h = grind (arith, exactly)
 
 zeros_next : (n : ℕ) → 0 ∷ zeros (n + 1) ≡ zeros (suc n + 1)
@@ -59,52 +52,43 @@ zeros_next = grind arith
 
 module _ (column : ℕ) where
   -- the rest of a short value
-  short_ends : (c : Conversion) (left : ℕ) (content : List ℕ) → CellReached (ShortData c left content) → (x : Cell)
-      × Spelt (cell column) (ShortData c left content) (zeros (left + 1)) (WholeCell x)
-  short_ends c zero content (plain, even) = (
-    N.DataCell c (content ++ 0 ∷ []),
-    spelt_one (omega arith) refl (grind (arith, N.length-append)) refl,
-  )
+  short_ends : (c : Conversion) (left : ℕ) (content : List ℕ) → CellReached (ShortData c left content)
+      → Ends (cell column) WholeCell (ShortData c left content) (zeros (left + 1))
+  short_ends c zero content (plain, even) = (N.DataCell c _, spelt_one (omega arith) refl (grind (arith, N.length-append)) refl)
   short_ends c (suc left) content (plain, even) =
-      let to : N.cell_add (ShortData c (suc left) content) (0 ∷ []) ≡ ShortData c left (content ++ 0 ∷ []) = grind arith in
       let same : length (content ++ 0 ∷ []) + (left + 1) ≡ length content + (suc left + 1) = grind (arith, N.length-append) in
-      let more = short_ends c left (content ++ 0 ∷ []) (plain, cc) in (
-        more.0,
-        rw (← zeros_next left) (spelt_both (spelt_one (omega arith) refl (grind (arith, N.test_lt)) to) more.1),
-      )
+      rw (← zeros_next left) (then_ends {t = ShortData c left (content ++ 0 ∷ [])} {e = 0 ∷ []}
+      (spelt_one (omega arith) refl (grind (arith, N.test_lt)) (grind arith)) (short_ends _ _ _ (plain, cc)))
 
   -- the rest of a chunk
   chunk_ends : {c : Conversion} {total : Option ℕ} (left : ℕ) {content : List ℕ} → is_plain c ≡ true
       → Spelt (cell column) (ChunkData c total left content) (zeros (left + 1)) (ChunkLength c total (content ++ zeros (left + 1)))
   chunk_ends {c} zero {content} plain = spelt_one (omega arith) refl (grind arith) refl
   chunk_ends {c} {total} (suc left) {content} plain =
-      let to : N.cell_add (ChunkData c total (suc left) content) (0 ∷ []) ≡ ChunkData c total left (content ++ 0 ∷ []) = grind arith in
       rw (← zeros_next left, ← N.append_assoc content (0 ∷ []) (zeros (left + 1)))
-      (spelt_both (spelt_one (omega arith) refl (grind arith) to) (chunk_ends _ plain))
+      (spelt_both {t = ChunkData c total left (content ++ 0 ∷ [])} {a = 0 ∷ []} (spelt_one (omega arith) refl (grind arith) (grind arith)) (chunk_ends _ plain))
 
   -- so many chunks of one zero byte, and the terminator
   chunks_end : {c : Conversion} {total : Option ℕ} (n : ℕ) {content : List ℕ} → is_plain c ≡ true → N.is_total total (length content + n) ≡ true
-      → (length content + n) % unit c ≡ 0 → (x : Cell) × Spelt (cell column) (ChunkLength c total content) (N.zero_chunks n ++ N.terminator) (WholeCell x)
+      → (length content + n) % unit c ≡ 0 → Ends (cell column) WholeCell (ChunkLength c total content) (N.zero_chunks n ++ N.terminator)
   chunks_end {c} zero {content} plain all even =
       let same : length content + 0 ≡ length content = omega arith in
       (N.DataCell c content, spelt_one (omega arith) refl (grind arith) refl)
   chunks_end {c} {total} (suc n) {content} plain all even =
       let same : length content + suc n ≡ length (content ++ 0 ∷ []) + n = grind (arith, N.length-append) in
-      let one : Spelt (cell column) (ChunkLength c total content) (1 ∷ 0 ∷ 0 ∷ 0 ∷ []) (ChunkData c total 0 content) =
-      spelt_one (omega arith) refl (grind arith) refl in
-      let more = chunks_end n plain (rw same at all) (rw same at even) in
-      (more.0, spelt_both (spelt_both one (chunk_ends 0 plain)) more.1)
+      then_ends {e = 1 ∷ 0 ∷ 0 ∷ 0 ∷ []} (spelt_one (omega arith) refl (grind arith) refl)
+      (then_ends (chunk_ends 0 {content = content} plain) (chunks_end n plain (rw same at all) (rw same at even)))
 
   -- the rest of the chunks
-  length_ends : {c : Conversion} (total : Option ℕ) {content : List ℕ} → is_plain c ≡ true → HoldsTotal c total (length content) → (x : Cell)
-      × Spelt (cell column) (ChunkLength c total content) (N.rest_of_chunks c total (length content)) (WholeCell x)
+  length_ends : {c : Conversion} (total : Option ℕ) {content : List ℕ} → is_plain c ≡ true → HoldsTotal c total (length content)
+      → Ends (cell column) WholeCell (ChunkLength c total content) (N.rest_of_chunks c total (length content))
   length_ends {c} None plain h = chunks_end _ plain refl (grind arith)
   length_ends (Some t) plain (le, even) = grind (arith, chunks_end, N.eq-eqb)
 
   -- A part of a cell followed by what completes it is a whole cell.
-  pub cell_ends : (p : CellPart) → CellReached p → (x : Cell) × Spelt (cell column) p (N.rest_of_cell p) (WholeCell x)
+  pub cell_ends : (p : CellPart) → CellReached p → Ends (cell column) WholeCell p (N.rest_of_cell p)
   cell_ends (N.ScalarBytes kind n) (some, valid, scalar, allowed) =
-      let v = value_there _ (zeros_are_a_value _ n valid scalar allowed) in
+      let v = N.is_ok_value (zeros_are_a_value _ n valid scalar allowed) in
       let l : length (zeros n) ≡ n = N.length-replicate n 0 in
       (N.ScalarCell v.0, spelt_one (omega arith) l (cc v.1) (cc v.1))
   cell_ends (N.ScalarLength kind) h = (Null, spelt_one (omega arith) refl refl refl)
@@ -114,8 +98,7 @@ module _ (column : ℕ) where
   cell_ends (ChunkLength c total content) (plain, h) = length_ends _ plain h
   cell_ends (ChunkData c total left content) (plain, h) =
       let l = N.length-append content (zeros (left + 1)) ∙ N.ap (λ v. length content + v) (N.length-replicate (left + 1) 0) in
-      let more = length_ends _ plain (rw (← l) at h) in
-      (more.0, spelt_both (chunk_ends _ plain) (rw (← l) more.1))
+      rw (← l) (then_ends (chunk_ends _ plain) (length_ends _ plain (rw (← l) at h)))
   cell_ends (WholeCell x) h = (x, N.Spelt-none _ _)
 
   -- Each element keeps what is known.
@@ -159,21 +142,17 @@ next_reached cells [] h = tt
 next_reached cells ((k, true) ∷ ks) (v, h) = next_reached _ ks h
 next_reached cells ((k, false) ∷ ks) (v, h) = grind arith
 
--- the rest of a row, up to its end
-abbrev Ends : N.RowPart → List ℕ → Type 0
-Ends p rest = (cells : List Cell) × Spelt (row Windows1252) p rest (WholeRow cells)
-
 -- the cell that is read, and those to come
 part_ends : (before : List Cell) (part : CellPart) (ks : List (Column × Bool)) → CellReached part
-    → ((b : List Cell) → Ends (N.next_cell Windows1252 b ks) (N.rest_of_cells ks))
-    → Ends (N.with_cell Windows1252 before ks part) (N.rest_of_cell part ++ N.rest_of_cells ks)
+    → ((b : List Cell) → Ends (row Windows1252) WholeRow (N.next_cell Windows1252 b ks) (N.rest_of_cells ks))
+    → Ends (row Windows1252) WholeRow (N.with_cell Windows1252 before ks part) (N.rest_of_cell part ++ N.rest_of_cells ks)
 part_ends before part ks h next =
     let one = cell_ends _ _ h in
-    let more = next (before ++ one.0 ∷ []) in
-    (more.0, spelt_both (N.Inside-Spelt _ _ _ (N.cell_in_row Windows1252 _ _) _ _ _ one.1) more.1)
+    then_ends (N.Inside-Spelt _ _ _ (N.cell_in_row Windows1252 _ _) _ _ _ one.1) (next (before ++ one.0 ∷ []))
 
 -- the cells to come
-cells_end : (before : List Cell) (ks : List (Column × Bool)) → AreMarkedValid ks → Ends (N.next_cell Windows1252 before ks) (N.rest_of_cells ks)
+cells_end : (before : List Cell) (ks : List (Column × Bool)) → AreMarkedValid ks
+    → Ends (row Windows1252) WholeRow (N.next_cell Windows1252 before ks) (N.rest_of_cells ks)
 cells_end before [] h = (before, N.Spelt-none _ _)
 cells_end before ((k, true) ∷ ks) (v, h) = cells_end (before ++ Null ∷ []) ks h
 cells_end before ((k, false) ∷ ks) (v, h) = rw (← N.begins_open Windows1252 before ks k.kind _) (part_ends before _ ks (grind arith) (λ b. cells_end b ks h))
@@ -188,15 +167,14 @@ marked_clear [] nulls k h = refl
 marked_clear (c ∷ cs) nulls k h = λ i. (c, h k i) ∷ marked_clear cs _ (k + 1) h i
 
 -- A part of a row followed by what completes it is a whole row.
-pub row_ends : (p : N.RowPart) → RowReached p → (cells : List Cell) × Spelt (row Windows1252) p (N.rest_of_row p) (WholeRow cells)
+pub row_ends : (p : N.RowPart) → RowReached p → Ends (row Windows1252) WholeRow p (N.rest_of_row p)
 row_ends (N.Bitmap columns) (some, h) =
     let n = N.bitmap_length (length columns) in
     let l = N.length-replicate n 0 in
     let one : Spelt (row Windows1252) (N.Bitmap columns) (zeros n) (N.next_cell Windows1252 [] (marked columns (bit (zeros n)) 0)) =
     spelt_one (omega (arith, l)) l refl refl in
     let clear = marked_clear columns (bit (zeros n)) 0 (λ k. grind (arith, zero_at)) in
-    let more = cells_end _ _ (N.subst AreMarkedValid clear (marked_valid _ _ 0 h)) in
-    (more.0, spelt_both (rw clear at one) more.1)
+    then_ends (rw clear at one) (cells_end _ _ (N.subst AreMarkedValid clear (marked_valid _ _ 0 h)))
 row_ends (N.InCell cells part ks) (begun, h, m) =
     let all = part_ends cells part ks h (λ b. cells_end b _ m) in
     grind arith

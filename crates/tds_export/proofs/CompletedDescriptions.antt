@@ -1,11 +1,12 @@
 -- What completes a description is read as its rest.
 use Rattle.tds_export.proofs as N
-use N.{Column, ColumnHead, InColumn, List, None, [], arith, if◌then◌else◌, int_columns, length, more, refl, suc, true, zero, zeros, ℕ, ◌*◌, ◌++◌, ◌+◌, ◌-◌}
-use N.{◌<◌, ◌==◌, ◌∙◌, ◌∷◌, ◌≡◌, ◌≤◌, ⊤}
+use N.{Column, ColumnHead, InColumn, List, [], arith, int_columns, length, refl, suc, true, zero, zeros, ℕ, ◌*◌, ◌++◌, ◌+◌, ◌-◌}
+use N.{◌<◌, ◌∷◌, ◌≡◌, ◌≤◌, ⊤}
 use N.Words.{named_kind, rest_length}
 use N.CompletedCells.{AreValid}
 use N.LeastTypes.{least_type}
-use N.ResponseLaws.{spelt_both, spelt_one}
+use N.ResponseLaws.{spelt_one}
+use N.SomeBytes.{then_ends}
 
 -- what is known of the place in a column after these bytes, with so many columns to follow: the room is enough for what must still come
 abbrev pub PlaceReached : ℕ → List ℕ → ℕ → N.ColumnPlace → Type 0
@@ -70,7 +71,7 @@ length-int_columns (suc n) = let l = length-int_columns n in omega arith
 
 -- the rest of a description, up to its end
 abbrev Ends : ℕ → N.DescriptionPart → List ℕ → Type 0
-Ends room d rest = (bytes : List ℕ) × (cols : List Column) × N.Spelt (N.description room) d rest (N.WholeDescription bytes cols)
+Ends room = N.SomeBytes.Ends {X = List ℕ × List Column} (N.description room) (λ x. N.WholeDescription x.0 x.1)
 
 module _ (room : ℕ) where
   -- the columns that aren't begun
@@ -78,22 +79,17 @@ module _ (room : ℕ) where
       → Ends room (InColumn bytes count cols ColumnHead) (N.int_column ++ int_columns n)
   ints_end bytes count cols n e fits =
       let l : length (int_columns (suc n)) ≡ 8 * suc n = length-int_columns _ in (
-        bytes ++ int_columns (suc n),
-        cols ++ int ∷ N.replicate n int,
+        (bytes ++ int_columns (suc n), cols ++ int ∷ N.replicate n int),
         N.columns_are_read _ _ _ _ _ _ _ (omega (arith, N.length-replicate n int)) (omega arith) (ints_are_spelt (suc n)),
       )
 
   -- after a column
   column_ends : (bytes : List ℕ) (count : ℕ) (cols : List Column) (c : Column) (n : ℕ) → count ≡ length cols + (1 + n) → length bytes + 8 * n ≤ room
       → Ends room (N.with_column bytes count cols c) (int_columns n)
-  column_ends bytes count cols c zero e fits = (bytes, cols ++ c ∷ [], grind arith)
+  column_ends bytes count cols c zero e fits = ((bytes, cols ++ c ∷ []), grind arith)
   column_ends bytes count cols c (suc n) e fits =
       let to : N.with_column bytes count cols c ≡ InColumn bytes count (cols ++ c ∷ []) ColumnHead = grind (arith, N.choose_false, N.ne_eqb) in
       rw to (ints_end _ _ _ n (grind (arith, N.length-append)) (omega arith))
-
-  -- an element, and what follows it
-  then_ends : {d to : N.DescriptionPart} {e rest : List ℕ} → N.Spelt (N.description room) d e to → Ends room to rest → Ends room d (e ++ rest)
-  then_ends = grind (arith, spelt_both)
 
   count_ends : (bytes : List ℕ) (count : ℕ) (cols : List Column) (kind : N.Kind) (n : ℕ) → n ≡ count - (length cols + 1) → length cols < count
       → length bytes + (1 + 8 * n) ≤ room → Ends room (InColumn bytes count cols (N.NameCount kind)) (0 ∷ int_columns n)

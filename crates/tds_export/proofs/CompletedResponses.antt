@@ -1,7 +1,7 @@
 -- What completes a response is read as its rest, and is bytes.
 use Rattle.tds_export.proofs as N
 use N.{AreBytes, Done, InRow, List, None, Open, Spelt, Token, Windows1252, [], arith, begun, false, length, passed, refl, response, suc, true, zero, zeros, ℕ}
-use N.{⊤, ◌++◌, ◌<◌, ◌∙◌, ◌∷◌, ◌≡◌, ◌≤◌}
+use N.{⊤, ◌++◌, ◌<◌, ◌∷◌, ◌≡◌, ◌≤◌}
 use N.SomeBytes.{AreBytes-append}
 use N.CompletedReturns.{ReturnReached, return_ends, return_keeps}
 use N.CompletedCells.{RowReached, AreValid, cell_keeps, marked_valid, next_reached, row_ends}
@@ -82,16 +82,13 @@ module _ (room : ℕ) where
   part_reached : {bytes : List ℕ} {p : N.Part} → AreBytes bytes → Spelt (response Windows1252 room) N.response_start bytes p → PartReached room p
   part_reached {p} are h = N.SomeBytes.bytes_induct (λ q b. PartReached room q) (grind (arith, open_keeps)) _ (tt, tt) _ p are h
 
-  -- the rest of a token, up to its end
-  abbrev Ends : List Token → Open → List ℕ → Type 0
-  Ends tokens at rest = (ts : List Token) × Spelt (response Windows1252 room) (part_at tokens at) rest (N.after_tokens ts)
-
   -- The rest of the token that is read ends it.
-  token_ends : 10 ≤ room → (tokens : List Token) (at : Open) → OpenReached room at → Ends tokens at (N.rest_of_token at)
+  token_ends : 10 ≤ room → (tokens : List Token) (at : Open) → OpenReached room at
+      → N.SomeBytes.Ends (response Windows1252 room) N.after_tokens (part_at tokens at) (N.rest_of_token at)
   token_ends ten tokens N.Between o = (tokens, N.Spelt-none _ _)
   token_ends ten tokens (N.Describing d) (begun, r) =
       let all = N.CompletedDescriptions.described_ends _ ten d begun r in
-      let read = spelt_inside (N.ResponseLaws.description_agrees Windows1252 room tokens) all.2 in
+      let read = spelt_inside (N.ResponseLaws.description_agrees Windows1252 room tokens) all.1 in
       grind arith
   token_ends ten tokens (InRow part) (begun, r) =
       let all = row_ends _ r in

@@ -1,9 +1,10 @@
 -- What completes a return value is read as its rest.
 use Rattle.tds_export.proofs as N
-use N.{Guid, Kind, List, None, Some, Spelt, [], ap, arith, begun, if◌then◌else◌, more, refl, ℕ, ◌++◌, ◌<◌, ◌∷◌, ◌≡◌}
+use N.{Guid, Kind, List, Some, [], arith, begun, refl, ℕ, ◌++◌, ◌<◌, ◌∷◌, ◌≡◌}
 use N.Words.{return_value, named_kind, rest_length}
 use N.CompletedCells.{CellReached, cell_ends, cell_keeps, IsOpenCell}
-use N.ResponseLaws.{spelt_inside, value_agrees, spelt_both, spelt_one}
+use N.ResponseLaws.{spelt_inside, value_agrees, spelt_one}
+use N.SomeBytes.{then_ends}
 use N.LeastTypes.{least_type}
 
 -- what is known of a part of a return value that bytes led to
@@ -23,11 +24,7 @@ return_keeps p are h n = tt
 
 -- the rest of a return value, up to its end
 abbrev Ends : N.ReturnPart → List ℕ → Type 0
-Ends p rest = (r : N.ReturnValue) × Spelt return_value p rest (N.WholeReturn r)
-
--- an element, and what follows it
-then_ends : {p to : N.ReturnPart} {e rest : List ℕ} → Spelt return_value p e to → Ends to rest → Ends p (e ++ rest)
-then_ends = grind (arith, spelt_both)
+Ends = N.SomeBytes.Ends return_value N.WholeReturn
 
 value_ends : (name : List ℕ) (kind : Kind) (part : N.CellPart) → CellReached part → Ends (N.with_value name kind part) (N.rest_of_cell part)
 value_ends name kind part h =
@@ -39,14 +36,14 @@ kind_ends name is v = rw is (value_ends _ _ _ (grind arith))
 
 head_ends : {name : List ℕ} → Ends (N.ReturnHead name) N.rest_of_return_head
 unfolding rest_length named_kind
-head_ends {name} = then_ends {to = N.ReturnInfo name 0x24} {e = N.zeros 7 ++ 0x24 ∷ []} (grind (arith, spelt_one))
+head_ends {name} = then_ends {t = N.ReturnInfo name 0x24} {e = N.zeros 7 ++ 0x24 ∷ []} (grind (arith, spelt_one))
     (then_ends {e = 16 ∷ []} (grind (arith, spelt_one)) (value_ends name Guid (N.ScalarLength Guid) (grind arith)))
 
 count_ends : Ends N.ReturnNameCount (0 ∷ N.rest_of_return_head)
 count_ends = then_ends {e = 0 ∷ []} (grind (arith, spelt_one)) (head_ends {name = []})
 
 -- A part of a return value followed by what completes it is a whole one.
-pub return_ends : (p : N.ReturnPart) → ReturnReached p → (r : N.ReturnValue) × Spelt return_value p (N.rest_of_return p) (N.WholeReturn r)
+pub return_ends : (p : N.ReturnPart) → ReturnReached p → Ends p (N.rest_of_return p)
 return_ends N.ReturnOrdinal h = then_ends {e = N.zeros 2} (grind (arith, spelt_one)) count_ends
 return_ends N.ReturnNameCount h = count_ends
 return_ends (N.ReturnName n) h =

@@ -1,19 +1,13 @@
 -- Where an export stops with the fault of a device, the device's count of failures rose.
 use Rattle.tds_export.proofs as N
-use N.{Coming, Fault, List, Option, ReadFailed, Stop, [], ap, arith, before, if◌then◌else◌, inl, inr, read, subst, sym, ℕ, ⊤, ◌++◌, ◌<◌, ◌∙◌, ◌∷◌}
-use N.{◌≡◌, ◌⊎◌}
+use N.{Coming, Fault, List, Option, ReadFailed, Stop, [], ap, arith, before, if◌then◌else◌, inl, inr, read, ℕ, ◌++◌, ◌<◌}
+use N.{◌≡◌}
 use N.Words.{front_packet, message}
 
--- a fault that elements may have, or the end of a message
-abbrev pub IsOfPayload : Fault → Type 0
-IsOfPayload ReadFailed = ⊥
-IsOfPayload N.WriteFailed = ⊥
-IsOfPayload fault = ⊤
-
--- no fault, or one of these
+-- no fault, or one that is no device's
 abbrev AtMostOfPayload : Option Fault → Type 0
-AtMostOfPayload N.None = ⊤
-AtMostOfPayload (N.Some fault) = IsOfPayload fault
+AtMostOfPayload N.None = N.⊤
+AtMostOfPayload (N.Some fault) = N.IsOfWire fault
 
 if_payload : (b : N.Bool) (x y : Option Fault) → AtMostOfPayload x → AtMostOfPayload y → AtMostOfPayload (if b then x else y)
 if_payload = grind arith
@@ -23,30 +17,27 @@ part_payload room tokens at e = grind (arith, if_payload)
 
 -- ---- a payload that has just begun
 
-ends_of_wire : (size limit : ℕ) {failures : ℕ} (left : Option (List ℕ)) (b : N.PayloadView) {bytes : List ℕ} {own : Stop}
-    → N.Ends (N.begun size limit left failures) b bytes own → N.IsOfWire own.fault ⊎ ((own.fault ≡ ReadFailed) × (b.failures ≡ N.one_more failures))
-ends_of_wire size limit left b (inl x) = inl (rw (← ap (λ (c : Coming). c.stop.fault) (x.2 [])) (N.message_of_wire _ _ _ 0 0 _))
-ends_of_wire size limit left b (inr (inl x)) = inl (grind (arith, N.message_of_wire))
-ends_of_wire size limit left b (inr (inr x)) = inr (x.2, x.4.0)
-
 -- what stops the reading of a response
 abbrev ReadingFault : ℕ → ℕ → Fault → Type 0
 ReadingFault before after fault = ((fault ≡ N.WriteFailed) → ⊥) × ((fault ≡ ReadFailed) → after ≡ N.one_more before)
 
 -- a fault of which no device's is one
-of_none : (P : Fault → Type 0) → (P N.WriteFailed → ⊥) → (P ReadFailed → ⊥) → (before after : ℕ) (fault : Fault) → P fault → ReadingFault before after fault
+of_none : (before after : ℕ) (fault : Fault) → N.IsOfWire fault → ReadingFault before after fault
 of_none = grind arith
+
+ends_blame : (size limit : ℕ) {failures : ℕ} (left : Option (List ℕ)) (b : N.PayloadView) {bytes : List ℕ} {own : Stop}
+    → N.Ends (N.begun size limit left failures) b bytes own → ReadingFault failures b.failures own.fault
+ends_blame size limit left b (inl x) = of_none _ _ _ (rw (← ap (λ (c : Coming). c.stop.fault) (x.2 [])) (N.message_of_wire _ _ _ 0 0 _))
+ends_blame size limit left b (inr (inl x)) = of_none _ _ _ (grind (arith, N.message_of_wire))
+ends_blame size limit left b (inr (inr x)) = (λ e. (cc), λ e. x.4.0)
 
 reading_fault : (charset : N.Charset) (room size limit : ℕ) {failures : ℕ} {left : Option (List ℕ)} {b : N.PayloadView} {place : ℕ} (at : N.Part) (stop : Stop)
     → N.StopsReading (N.response charset room) N.response_start (N.begun size limit left failures) b place at stop → ReadingFault failures b.failures stop.fault
 reading_fault charset room size limit {b} at stop x = elim x.cause [
-  | inl y ↦ of_none IsOfPayload (λ h. h) (λ h. h) _ _ _ (grind (arith, part_payload))
+  | inl y ↦ of_none _ _ _ (grind (arith, part_payload))
   | inr y ↦ elim y.stop_is [
-    | inl z ↦ grind (arith, of_none)
-    | inr z ↦ rw (ap (λ (s : Stop). s.fault) z.1) (elim (ends_of_wire _ _ _ b y.ends) [
-      | inl w ↦ grind (arith, of_none)
-      | inr w ↦ grind arith
-    ])
+    | inl z ↦ of_none _ _ _ (grind arith)
+    | inr z ↦ rw (ap (λ (s : Stop). s.fault) z.1) (ends_blame _ _ _ b y.ends)
   ]
 ]
 

@@ -1,9 +1,8 @@
 -- How long the text of so many bytes is at most.
 use Rattle.tds_export.proofs as N
-use N.{Conversion, HexDigits, List, [], arith, choose, emit, length, true, ℕ, ◌*◌, ◌++◌, ◌+◌, ◌-◌, ◌<◌, ◌==◌, ◌^◌, ◌∷◌, ◌≡◌, ◌≤◌, ⊤}
+use N.{Conversion, HexDigits, List, [], arith, choose, emit, length, true, ℕ, ◌*◌, ◌++◌, ◌+◌, ◌<◌, ◌^◌, ◌∷◌, ◌≡◌, ◌≤◌, ⊤}
 use N.Words.{utf16_chars}
 use N.SomeBytes.{byte_below, little_below}
-use Rattle.tds_text.specs.Utf16 as utf16
 use Rattle.tds_values.specs.declared.kind.Kind.TheVariants as kinds
 
 -- ---- the text of data
@@ -12,12 +11,6 @@ use Rattle.tds_values.specs.declared.kind.Kind.TheVariants as kinds
 characters_length : (cs : List ℕ) → length (N.doubled (N.encode_utf8_all cs)) ≤ 4 * length cs
 characters_length [] = omega arith
 characters_length (c ∷ cs) = grind (arith, N.doubled-append, N.doubled_length, N.length-append, (characters_length cs))
-
--- no more units than bytes
-units_length : (bytes : List ℕ) → length (utf16.units bytes) ≤ length bytes
-units_length [] = omega arith
-units_length (low ∷ []) = omega arith
-units_length (low ∷ high ∷ bytes) = omega (arith, units_length bytes)
 
 -- no more characters than units
 chars_length : (us : List ℕ) → length (utf16_chars us) ≤ length us
@@ -33,7 +26,7 @@ doubled_most (b ∷ bytes) = grind (arith, N.length-append, (doubled_most bytes)
 
 -- four bytes for each byte
 conversion_length : (c : Conversion) (bytes : List ℕ) → length (N.conversion_text c bytes) ≤ 4 * length bytes
-conversion_length = grind (arith, characters_length, chars_length, doubled_most, N.length-encode_with, N.length-map, units_length)
+conversion_length = grind (arith, characters_length, chars_length, doubled_most, N.length-encode_with, N.length-map, N.length-units)
 
 -- nor is the fixed text longer
 emit_length : (c : Conversion) (bytes : List ℕ) → length (emit (N.conversion_rest c) (N.conversion_text c) bytes) ≤ 4 * length bytes

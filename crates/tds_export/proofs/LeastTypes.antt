@@ -1,6 +1,6 @@
 -- The least TYPE_INFO of each type byte.
 use Rattle.tds_export.proofs as N
-use N.{Bool, Kind, List, None, Option, Some, [], arith, least_info, refl, suc, true, zero, ℕ, ◌&&◌, ◌<◌, ◌==◌, ◌∷◌, ◌≡◌}
+use N.{Bool, Kind, List, None, Option, Some, [], arith, least_info, refl, true, ℕ, ◌&&◌, ◌<◌, ◌==◌, ◌∷◌, ◌≡◌}
 use N.Words.{named_kind, rest_length}
 
 -- after this type byte the least rest is of so many bytes, and describes a kind
@@ -29,21 +29,9 @@ holds (Some n) rest (Some kind) = N.length rest == n && are_bytes rest
 has_least : ℕ → Bool
 has_least byte = holds (rest_length byte) (least_info byte) (N.kind_of (byte ∷ least_info byte))
 
--- whether all numbers below this one pass a test
-all_below : ℕ → (ℕ → Bool) → Bool
-all_below zero p = true
-all_below (suc n) p = p n && all_below n p
-
-one_below : (n : ℕ) (p : ℕ → Bool) → all_below n p ≡ true → (k : ℕ) → k < n → p k ≡ true
-unfolding all_below
-one_below zero p h k l = grind arith
-one_below (suc n) p h k l =
-    let both = N.and_parts (p n) (all_below n p) h in
-    grind (arith, (one_below n p both.1 k))
-
 -- each byte passes
-every_byte : all_below 256 has_least ≡ true
-unfolding all_below has_least rest_length named_kind
+every_byte : N.agree_below has_least (λ _. true) 256 ≡ true
+unfolding has_least rest_length named_kind
 every_byte = refl
 
 -- and a number above is no type byte
@@ -58,4 +46,4 @@ found = grind (arith, N.and_parts, bytes_true, N.eq_true)
 -- After each type byte that is accepted its least rest describes a kind.
 pub least_type : {byte n : ℕ} → rest_length byte ≡ Some n → IsLeast byte n
 unfolding has_least
-least_type {n} h = found _ n _ _ (one_below _ _ every_byte _ (beyond _ n h)) h refl
+least_type {n} h = found _ n _ _ (N.agree_below_at has_least (λ _. true) 256 _ every_byte (beyond _ n h)) h refl

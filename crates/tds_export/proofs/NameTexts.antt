@@ -1,7 +1,7 @@
 -- The names of columns, put one after another.
 use Rattle.tds_export.proofs as N
-use N.{Column, List, Ok, Option, PutsPiece, Sink, Stop, [], arith, codes, joined, length, map, name_field, take, ℕ, ◌+◌, ◌++◌, ◌<◌, ◌≤◌, ◌==◌, ◌∙◌, ◌∷◌, ◌≡◌}
-use Rattle.tds_text.specs.Quoting.{after_comma, in_line}
+use N.{Column, List, Ok, Option, PutsPiece, Sink, Stop, [], arith, joined, length, map, name_field, take, ℕ, ◌+◌, ◌++◌, ◌<◌, ◌≤◌, ◌==◌, ◌∙◌, ◌∷◌, ◌≡◌}
+use Rattle.tds_text.specs.Quoting.{in_line}
 use Rattle.tds_cells.proofs.RunSteps.{made_more}
 
 -- one piece was put, and another after it
@@ -13,18 +13,6 @@ then_puts x y = N.PutsPiece-trans _ _ _ _ _ _ _ _ x y
 pub passed_piece : {W U V : Type 0} {contents : W → Option (List ℕ)} {a b : Sink W} {p : List ℕ} {e : Stop} {r : N.Result V Stop} (more : List ℕ)
     → N.IsErrAnd r (λ stop. stop ≡ e) → PutsPiece {U = U} contents a b p (N.Err e) → PutsPiece contents a b (p ++ more) r
 passed_piece more is x = N.PutsPiece-passed _ _ _ _ _ _ _ is x
-
--- the comma before a field that isn't the first
-comma_before : (n : ℕ) (f : List ℕ) → after_comma (N.suc n) f ≡ codes "," ++ f
-comma_before = grind arith
-
--- one more field
-joined-snoc : (fs : List (List ℕ)) (f : List ℕ) → joined (fs ++ f ∷ []) ≡ joined fs ++ after_comma (length fs) f
-joined-snoc [] f = N.refl
-joined-snoc (a ∷ []) f = N.append_assoc a (codes ",") f
-joined-snoc (a ∷ b ∷ fs) f =
-    let commas = N.append_assoc (a ++ codes ",") (joined (b ∷ fs)) (codes "," ++ f) in
-    cc (joined-snoc (b ∷ fs) f, commas, comma_before (length fs) f, comma_before (N.suc (length fs)) f)
 
 -- the text of these names, after which those are left: the line ends after the last
 abbrev pub names_text : (done left : List Column) → List ℕ
@@ -43,9 +31,9 @@ pub record Named (columns left : List Column) (index : ℕ) : Type 0 where
 -- one more name is put after others
 one_more : {columns left rest : List Column} {c : Column} {index count : ℕ} → left ≡ c ∷ rest → (x : Named columns left index) → count ≡ length columns
     → (y : Named columns rest (index + 1)) × (names_text x.done left ++ in_line index (index + 1 == count) (name_field c) ≡ names_text y.done rest)
-one_more {c} is x number = (
+one_more {c} is x number = let joins = N.joined_snoc (map name_field x.done) (name_field c) in (
   record { done = x.done ++ c ∷ []; split = grind (arith, N.append_assoc); index_is = grind (arith, N.length-append) },
-  grind (arith, N.eq-eqb, N.length-map, N.length-append, joined-snoc, N.map-append, N.append_assoc, joined, N.ne_eqb, N.append-nil),
+  grind (arith, N.eq-eqb, N.length-map, N.length-append, N.map-append, N.append_assoc, joined, N.ne_eqb, N.append-nil),
 )
 
 -- the header line begins with them

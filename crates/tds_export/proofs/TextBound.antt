@@ -1,7 +1,6 @@
 -- The text so far is no longer than 64 bytes for each byte read.
 use Rattle.tds_export.proofs as N
 use N.{Bool, Column, List, None, Part, Some, [], arith, choose, false, joined, length, length-append, response, text, true, ℕ, ◌*◌, ◌++◌, ◌+◌, ◌∷◌, ◌≡◌, ◌≤◌}
-use N.{◌==◌}
 use N.FieldLengths.{long_length, long_more, open_length, open_more, read_short}
 use N.TokenLaws.{bare, bare_body, bare_fixed, begun_after, text_after-snoc}
 
@@ -13,15 +12,11 @@ before_last fs = length (joined (fs ++ [] ∷ []))
 
 -- the last field and what stands before it
 last_length : (fs : List (List ℕ)) (f : List ℕ) → length (joined (fs ++ f ∷ [])) ≡ before_last fs + length f
-last_length [] f = omega arith
-last_length (x ∷ []) f = grind (arith, length-append)
-last_length (x ∷ y ∷ fs) f = grind (arith, length-append, (last_length (y ∷ fs) f))
+last_length fs f = rw (← N.joined_snoc fs f, ← N.joined_snoc fs [], N.after_append (length fs) [] f) (grind (arith, length-append))
 
 -- a comma at most
 before_last_most : (fs : List (List ℕ)) → before_last fs ≤ length (joined fs) + 1
-before_last_most [] = omega arith
-before_last_most (x ∷ []) = grind (arith, length-append)
-before_last_most (x ∷ y ∷ fs) = grind (arith, length-append, (before_last_most (y ∷ fs)))
+before_last_most fs = rw (← N.joined_snoc fs []) (grind (arith, length-append))
 
 -- one more field
 one_more_length : (fs : List (List ℕ)) (f : List ℕ) → length (joined (fs ++ f ∷ [])) ≤ length (joined fs) + 1 + length f

@@ -13,9 +13,8 @@ pub use Rattle.std.proofs.Common.{append-nil, take-append-drop, Result, Ok, Err,
 pub use Rattle.std.proofs.Common.{add-one, Option, ◌*◌, slice_index, map, ◌⊎◌, MatchResult, unsigned_abs, length-take, ◌/◌, length-drop, max, take-add}
 pub use Rattle.std.proofs.Common.{drop-cons, length-take-le, rules, take_all}
 pub use Rattle.std.proofs.KnownBytes.{Consumes-nil}
-pub use Rattle.std.proofs.Math.Nat.{pow-suc}
 pub use Rattle.std.proofs.Math.Seq.{get_or-append_seam, take-append_seam, drop-append_seam, take-append-add, get_or-drop}
-pub use Rattle.std.proofs.lemmas.Bool.{ne_eqb, and_parts, or_cases, eq-eqb}
+pub use Rattle.std.proofs.lemmas.Bool.{ne_eqb, and_parts, or_cases, eq-eqb, agree_below, agree_below_at}
 pub use Rattle.std.proofs.lemmas.Bool.Decides.{nat_tests}
 pub use Rattle.std.proofs.lemmas.Grind.{flat_map-append, common_steps}
 pub use Rattle.std.proofs.lemmas.List.{length-replicate, length-map, map-append, drop-drop, take-append-le}
@@ -25,6 +24,7 @@ pub use Rattle.std.specs.Io.KnownBytes.{Appends, Consumes}
 pub use Rattle.std.specs.Prelude.{◌==◌, is_ok, Some, None, ◌&&◌, not, nat_lt, if◌then◌else◌, ◌||◌, IsTrue, encode_utf8_all, ⊤, codes, ℤ, option_map, IfOk}
 pub use Rattle.std.specs.Result.{IsErrAnd}
 pub use Rattle.byteorder.specs.Endian.{little_number, little_from}
+pub use Rattle.byteorder.specs.Numbers.{little_from-lt}
 pub use Rattle.hex.proofs.HexLemmas.{length-encode_with}
 pub use Rattle.tds_meter.specs.Counts.{one_more, counted}
 pub use Rattle.tds_meter.specs.Rooms.{AreEmptied, is_intact}
@@ -89,6 +89,7 @@ pub use Rattle.tds_columns.specs.Walking.{columns_left}
 pub use Rattle.tds_text.proofs.Characters.{doubled_length}
 pub use Rattle.tds_text.proofs.ConversionLaws.{joins_by_name, fit_by_test, begun_by_test, fit_begins}
 pub use Rattle.tds_text.proofs.JoiningLemmas.{doubled-append}
+pub use Rattle.tds_text.proofs.WideText.{length-units}
 pub use Rattle.tds_text.specs.Conversion.{Conversion, Utf8Text, unit, is_fit, is_begun, HexDigits, conversion_rest, conversion_text, long_field, open_field}
 pub use Rattle.tds_text.specs.Conversion.{Utf16Text}
 pub use Rattle.tds_text.specs.Cutting.{whole_within}
@@ -102,11 +103,11 @@ pub use Rattle.tds_csv.specs.Sinks.{SinkView, Finishes, held, WritesPrefix, Puts
 pub use Rattle.tds_csv.specs.Streaming.{PutsText, StopsStreaming, Streams, WritesPrefixStreaming}
 pub use Rattle.tds_csv.specs.declared.sink.Sink.{Sink}
 pub use Rattle.tds_cells.proofs.CellLaws.{cell_is_read}
-pub use Rattle.tds_cells.proofs.CellMeaning.{unless_none, CellMeans, cell_step, start_means}
+pub use Rattle.tds_cells.proofs.CellMeaning.{unless_none, CellMeans, cell_step, start_means, is_ok_value}
 pub use Rattle.tds_cells.proofs.GrowingTexts.{joined_more, Grows, grows_all, grows_same, grows_trans, grows_under, row_grows, last_fit, end_fit}
 pub use Rattle.tds_cells.proofs.RowLaws.{cell_in_row, begins_open, row_is_read, nbc_row_is_read, shape-HasBytes}
 pub use Rattle.tds_cells.proofs.RowMeaning.{RowMeans, row_step, row_start_means}
-pub use Rattle.tds_cells.proofs.RowTexts.{start_quiet}
+pub use Rattle.tds_cells.proofs.RowTexts.{start_quiet, joined_snoc, after_append}
 pub use Rattle.tds_cells.specs.Cells.{Cell, Null, ScalarCell, DataCell, shape, CellPart, ScalarBytes, ScalarLength, ShortLength, ShortData, Total, ChunkLength}
 pub use Rattle.tds_cells.specs.Cells.{ChunkData, WholeCell, cell_start, cell_add, cell, is_total, return_charset, field, field_so_far}
 pub use Rattle.tds_cells.specs.Rows.{RowPart, WholeRow, row, marked, bit, bitmap_length, Bitmap, InCell, next_cell, with_cell, row_start, NbcRow, PlainRow}
