@@ -45,7 +45,7 @@ AreBytes-cells ((k, true) ∷ ks) = AreBytes-cells ks
 AreBytes-cells ((k, false) ∷ ks) = grind (arith, (AreBytes-cells ks))
 
 AreBytes-return : (p : N.ReturnPart) → ReturnReached p → AreBytes (N.rest_of_return p)
-AreBytes-return = search (arith, AreBytes-append, N.LeastTypes.least_type, AreBytes-zeros, AreBytes-cell)
+AreBytes-return = search (arith, AreBytes-append, N.LeastTypes.AreBytes-info, AreBytes-zeros, AreBytes-cell)
 
 -- the columns that are described are some, of valid kinds
 abbrev CurrentReached : N.Option (List N.Column) → Type 0
@@ -125,7 +125,7 @@ can_be_completed room part bytes ten are h =
       N.ResponseMeaning.response_is_spelt _ _ (grind (
         arith,
         AreBytes-append,
-        N.LeastTypes.least_type,
+        N.LeastTypes.AreBytes-info,
         AreBytes-ints,
         AreBytes-return,
         AreBytes-cell,

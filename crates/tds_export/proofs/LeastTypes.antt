@@ -1,6 +1,6 @@
 -- The least TYPE_INFO of each type byte.
 use Rattle.tds_export.proofs as N
-use N.{Bool, Kind, List, None, Option, Some, [], arith, least_info, refl, true, ℕ, ◌&&◌, ◌<◌, ◌==◌, ◌∷◌, ◌≡◌}
+use N.{Bool, Kind, List, None, Option, Some, arith, least_info, refl, true, ℕ, ◌<◌, ◌==◌, ◌∷◌, ◌≡◌}
 use N.Words.{named_kind, rest_length}
 
 -- after this type byte the least rest is of so many bytes, and describes a kind
@@ -8,22 +8,16 @@ pub record IsLeast (byte n : ℕ) : Type 0 where
   pub kind : Kind
   pub described : N.kind_of (byte ∷ least_info byte) ≡ Some kind
   pub whole : N.length (least_info byte) ≡ n
-  pub bytes : N.AreBytes (least_info byte)
 
--- whether these are bytes
-abbrev are_bytes : List ℕ → Bool
-are_bytes [] = true
-are_bytes (x ∷ xs) = N.nat_lt x 256 && are_bytes xs
+-- it is of bytes, whatever the type byte
+pub AreBytes-info : (byte : ℕ) → N.AreBytes (least_info byte)
+AreBytes-info = grind (arith, N.choose, N.SomeBytes.AreBytes-replicate)
 
-bytes_true : (xs : List ℕ) → are_bytes xs ≡ true → N.AreBytes xs
-bytes_true [] h = tt
-bytes_true (x ∷ xs) h = grind (arith, N.and_parts, N.lt_true, (bytes_true xs))
-
--- whether a rest of this length, if there is one, has it, is of bytes, and describes a kind
+-- whether a rest of this length, if there is one, has it, and describes a kind
 abbrev holds : Option ℕ → List ℕ → Option Kind → Bool
 holds None rest kind = true
 holds (Some n) rest None = N.false
-holds (Some n) rest (Some kind) = N.length rest == n && are_bytes rest
+holds (Some n) rest (Some kind) = N.length rest == n
 
 -- whether the least rest is one, where the type byte is accepted
 has_least : ℕ → Bool
@@ -41,7 +35,7 @@ beyond = grind (arith, N.nat_tests)
 
 found : (byte n : ℕ) (r : Option ℕ) (k : Option Kind) → holds r (least_info byte) k ≡ true → r ≡ Some n → N.kind_of (byte ∷ least_info byte) ≡ k
     → IsLeast byte n
-found = grind (arith, N.and_parts, bytes_true, N.eq_true)
+found = grind (arith, N.eq_true)
 
 -- After each type byte that is accepted its least rest describes a kind.
 pub least_type : {byte n : ℕ} → rest_length byte ≡ Some n → IsLeast byte n
