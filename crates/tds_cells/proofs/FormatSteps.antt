@@ -1,14 +1,11 @@
 -- Runs over cells by their formats, a cell after those that were written.
 use Rattle.tds_cells.proofs as N
-use N.{◌⊎◌, ◌≡◌, ◌≢◌, ◌∙◌, ℕ, suc, ◌+◌, ◌-◌, ◌<◌, ◌≤◌, Bool, false, List, [], ◌∷◌, ◌++◌, length, take, drop, get_or, refl, ◌*◌, sym, ap, arith, ◌==◌, ◌&&◌}
+use N.{◌⊎◌, ◌≡◌, ◌∙◌, ℕ, suc, ◌+◌, ◌-◌, ◌<◌, ◌≤◌, Bool, false, List, [], ◌∷◌, ◌++◌, length, take, drop, get_or, refl, ◌*◌, ap, arith, ◌==◌, ◌&&◌}
 use N.{Column, end_after, Charset, CellFormat, inl, inr}
 use N.RowTexts.{after_some_column, after_append}
-use N.RunSteps.{made_more, used_more, whole_some, unused}
-use borrow.Rule.Slice.PartMut.{put_mid}
-use Rattle.std.proofs.lemmas.List.{drop-append-le, drop-set-add, take-set-le}
-
-not_last : (rest : List Column) → 0 < length rest → false ≡ N.is_last_column rest
-not_last _ some = grind arith
+use N.RunSteps.{made_more, made_same, used_more, whole_some, unused}
+use Rattle.std.proofs.lemmas.Bool.Decides.{nat_tests}
+use Rattle.std.proofs.lemmas.List.{drop-append-le, take-set-le}
 
 -- the formats are those of the next columns, which are the row's last if the formats end it
 module _ (formats : List CellFormat) (ends : Bool) (columns : List Column)
@@ -20,15 +17,9 @@ module _ (formats : List CellFormat) (ends : Bool) (columns : List Column)
     -- the column after this many is the last where the formats say so
     last_of : (k : ℕ) (c : Column) (rest : List Column) → k < length formats → drop k columns ≡ c ∷ rest
         → (ends && (k + 1 == length formats)) ≡ N.is_last_column rest
-    last_of k c rest within step = go _ refl
-      where
-        go : (b : Bool) → (length formats == length columns) ≡ b → (ends && (k + 1 == length formats)) ≡ N.is_last_column rest
-        go N.true e = ap (λ v. v && (k + 1 == length formats)) (ends_are ∙ e)
-            ∙ N.RowFormatSteps.last_one columns rest c k _ (N.eq_true _ _ e) step
-        go false e = ap (λ v. v && (k + 1 == length formats)) (ends_are ∙ e) ∙ not_last rest (more (N.eq_false _ _ e))
-          where
-            more : length formats ≢ length columns → 0 < length rest
-            more isnt = omega (arith, few, ap length step, N.length-drop k columns)
+    last_of k c rest within step =
+        let last = N.RowFormatSteps.last_one columns rest c k _ refl step in
+        grind (arith, nat_tests, few)
 
     module _ (k : ℕ) (d : CellFormat) (within : k < length formats) where
       abbrev next_column : Column
@@ -100,132 +91,84 @@ module _ (charset : Charset) (formats : List CellFormat) (column : ℕ) (ends : 
 pub before_comma : (made column : ℕ) (to fields : List ℕ) → 0 < column → made ≤ length to → take made to ≡ fields ++ N.after_comma column []
     → take (made - 1) to ≡ fields
 before_comma made column to fields some within is =
-    let comma = is ∙ ap (λ l. fields ++ l) (sym (after_some_column column (λ e. omega arith))) in
-    let counted : length fields ≡ made - 1 = omega (arith, sym (N.length-take-le made to within) ∙ ap length comma ∙ N.length-append fields _) in
-    sym (N.take-take _ made to (omega arith)) ∙ ap (take _) comma
-    ∙ N.take-append-le _ fields _ (omega arith) ∙ N.take_all _ fields (omega arith)
+    let comma : take made to ≡ fields ++ 44 ∷ [] = grind (arith, after_some_column) in
+    let counted : made ≡ length fields + 1 = omega (arith, ap length comma, N.length-take-le made to within, N.length-append fields (44 ∷ [])) in
+    rw (← N.take-take (made - 1) made to (omega arith), comma) (grind (arith, N.take-append-le, N.take_all))
 
--- A run wrote the fields of the bytes that it used, and the comma of the next one.
-abbrev pub FieldsWritten : Charset → List CellFormat → ℕ → List ℕ → List ℕ → N.FormatsRun → Type 0
-FieldsWritten charset formats column bytes text run = (fields : List ℕ) × N.WritesFormats charset formats column run.cells (take run.used bytes) fields
-    × (take run.made text ≡ fields ++ N.after_comma (column + run.cells) [])
+-- After this text a run wrote the fields of the bytes that it used, and the comma of the next one.
+pub record FieldsWritten (charset : Charset) (formats : List CellFormat) (column : ℕ) (bytes before text : List ℕ) (run : N.FormatsRun) : Type 0 where
+  pub fields : List ℕ
+  pub writes : N.WritesFormats charset formats column run.cells (take run.used bytes) fields
+  pub text_is : take run.made text ≡ before ++ (fields ++ N.after_comma (column + run.cells) [])
 
-module _ (charset : Charset) (formats : List CellFormat) (column : ℕ) (bytes : List ℕ) where
-  pub fields_more : (to text rest : List ℕ) (k used u now made m : ℕ) (d : CellFormat) → now ≡ used + u → made ≤ length to → m < length text
-      → k < length formats → N.WritesField charset (get_or formats k d).kind (take u (unused used bytes)) (take m text)
-      → FieldsWritten charset formats column bytes to (record { cells = k; used = used; made = made })
-      → FieldsWritten charset formats column bytes (N.slice_set (take made to ++ (text ++ rest)) (made + m) 44)
-      (record { cells = k + 1; used = now; made = made + m + 1 })
-  fields_more to text rest k used u _ made m d further within some there wrote (fields, x, is) =
-      let read = take u _ in
-      let field = take m text in
-      let all = take made to ++ _ in
-      let here : made + m < length all =
-      grind (arith, N.length-append, N.length-take-le) in
-      let is' =
-      N.take_more_set all _ 44 here ∙ ap (λ l. l ++ 44 ∷ []) (made_more made m to text rest within (omega arith)
-      ∙ ap (λ l. l ++ field) is ∙ N.append_assoc fields _ field
-      ∙ ap (λ l. fields ++ l) (sym (after_append _ [] field)))
-      ∙ ap (λ l. (fields ++ N.after_comma (column + k) field) ++ l) (after_some_column (column + (k + 1)) (λ e. omega arith)) in
-      let written : N.WritesFormats charset formats column (suc k) _ _ =
-      (take used bytes, read, fields, field, used_more used u bytes, refl, x, λ format. rw (N.get_or_default formats k d format there) at wrote) in
-      rw further (grind arith)
+-- one field more, and the comma after it
+text_more : (column k made m : ℕ) (to text rest before fields : List ℕ) → made ≤ length to → m < length text
+    → take made to ≡ before ++ (fields ++ N.after_comma (column + k) [])
+    → take (made + m + 1) (N.slice_set (take made to ++ (text ++ rest)) (made + m) 44)
+    ≡ before ++ ((fields ++ N.after_comma (column + k) (take m text)) ++ N.after_comma (column + (k + 1)) [])
+text_more _ _ _ _ _ _ _ _ _ within few is =
+    grind (arith, N.take_more_set, made_more, N.append_assoc, after_append, after_some_column, N.length-append, N.length-take-le)
+
+pub fields_more : {charset : Charset} {formats : List CellFormat} {column : ℕ} {bytes before : List ℕ} (to text rest : List ℕ) (k used u now made m : ℕ)
+    (d : CellFormat) → now ≡ used + u → made ≤ length to → m < length text → k < length formats
+    → N.WritesField charset (get_or formats k d).kind (take u (unused used bytes)) (take m text)
+    → FieldsWritten charset formats column bytes before to (record { cells = k; used = used; made = made })
+    → FieldsWritten charset formats column bytes before (N.slice_set (take made to ++ (text ++ rest)) (made + m) 44)
+    (record { cells = k + 1; used = now; made = made + m + 1 })
+fields_more {charset} {formats} {column} {bytes} {before} to text rest k used u _ made m d further within some there wrote x =
+    let one : N.WritesFormats charset formats column (suc k) _ _ = (
+      take used bytes,
+      take u _,
+      x.fields,
+      take m text,
+      used_more used u bytes,
+      refl,
+      x.writes,
+      λ format. rw (N.get_or_default formats k d format there) at wrote,
+    ) in
+    let text_is = text_more column k made m to text rest before x.fields within some x.text_is in
+    rw further (record { fields = x.fields ++ N.after_comma (column + k) (take m text); writes = grind arith; text_is = text_is })
 
 -- what is written from `at` on
 pub beyond_kept : (at m : ℕ) (to x rest : List ℕ) → at ≤ length to → m ≤ length x → take m (drop at (take at to ++ (x ++ rest))) ≡ take m x
-beyond_kept at m to x rest within fits =
-    ap (take m) (grind (arith, drop-append-le, N.length-take-le, N.drop_all)) ∙ N.take-append-le m x rest fits
-
--- what was written from `made` on
-pub written_after : (made : ℕ) (old new : List ℕ) → made ≤ length old → length new ≡ length old → take made new ≡ take made old
-    → new ≡ put_mid made (length old - made) old (drop made new)
-written_after made old new within size kept =
-    let none = N.drop_all (length old - made) (drop made old) (omega (arith, N.length-drop made old)) in
-    sym (N.take-append-drop made new) ∙ ap (λ l. l ++ drop made new) kept
-    ∙ ap (λ l. take made old ++ l) (sym (N.append-nil (drop made new)) ∙ ap (λ l. drop made new ++ l) (sym none))
+beyond_kept _ m _ x _ within fits = grind (arith, drop-append-le, N.take-append-le, N.length-take-le, N.drop_all)
 
 -- what is left after `used` bytes is left of those from `from` on
 pub unused_from : (from used : ℕ) (bytes : List ℕ) → from ≤ used → unused used bytes ≡ unused (used - from) (drop from bytes)
-unused_from from used bytes begun =
-    let same : from + (used - from) ≡ used = omega arith in
-    N.all_after bytes used ∙ ap (λ (n : ℕ). drop n bytes) (sym same) ∙ sym (N.drop-drop (used - from) from bytes)
-    ∙ sym (N.all_after (drop from bytes) (used - from))
+unused_from _ _ _ begun = grind (arith, N.all_after, N.drop-drop)
 
--- a byte that is set beyond `at`
-pub set_beyond : (at made m : ℕ) (to x : List ℕ) → at ≤ made → made ≤ length to → drop at (N.slice_set (take made to ++ x) (made + m) 44)
-    ≡ N.slice_set (take (made - at) (drop at to) ++ x) ((made - at) + m) 44
-set_beyond at made m to x begun within =
-    let place : made + m ≡ at + ((made - at) + m) = omega arith in
-    let split : made ≡ at + (made - at) = omega arith in
-    ap (λ (n : ℕ). drop at (N.slice_set (take made to ++ x) n 44)) place ∙ drop-set-add at (take made to ++ x) ((made - at) + m) 44
-    ∙ ap (λ l. N.slice_set l ((made - at) + m) 44) (grind (arith, drop-append-le, N.length-take-le, N.drop-take))
-
--- and one that stands before it
+-- what stands before `at`, where bytes are written and one is set beyond it
 pub kept_before : (at made m : ℕ) (to x : List ℕ) → at ≤ made → made ≤ length to → take at (N.slice_set (take made to ++ x) (made + m) 44) ≡ take at to
-kept_before at made m to x begun within =
-    take-set-le at (take made to ++ x) (made + m) 44 (omega arith) ∙ N.take-append-le at (take made to) x (omega (arith, N.length-take-le made to within))
-    ∙ N.take-take at made to begun
+kept_before _ _ _ _ _ begun within = grind (arith, take-set-le, N.take-append-le, N.length-take-le, N.take-take)
 
--- what was made beyond `at` is the same where all is
-pub same_beyond : (at made : ℕ) (old new : List ℕ) → at ≤ made → take made new ≡ take made old → take (made - at) (drop at new) ≡ take (made - at) (drop at old)
-same_beyond at made old new begun same =
-    let split : at + (made - at) ≡ made = omega arith in
-    sym (N.drop-take at (made - at) new) ∙ ap (λ (n : ℕ). drop at (take n new)) split ∙ ap (drop at) same
-    ∙ ap (λ (n : ℕ). drop at (take n old)) (sym split) ∙ N.drop-take at (made - at) old
+-- A text stands from one place up to another, and before it what stood there.
+pub record StandsFrom (at end : ℕ) (old new text : List ℕ) : Type 0 where
+  pub later : at ≤ end
+  pub kept : take at new ≡ take at old
+  pub text_is : take (end - at) (drop at new) ≡ text
 
--- what was made ends after `at`, and so does what is made beyond it
-pub ended_beyond : (at end made : ℕ) (old new e : List ℕ) → at ≤ made → made ≤ length old → end ≤ length new → take end new ≡ take made old ++ e
-    → (at ≤ end) × ((take at new ≡ take at old) × (take (end - at) (drop at new) ≡ take (made - at) (drop at old) ++ e))
-ended_beyond at end made old new e begun within fits is = (later, (before, after))
-  where
-    size : length (take made old) ≡ made
-    size = N.length-take-le made old within
+pub beyond : (at end : ℕ) (old new text : List ℕ) → at ≤ length old → end ≤ length new → take end new ≡ take at old ++ text → StandsFrom at end old new text
+beyond at end old new text within fits is =
+    let size = N.length-take-le at old within in
+    let later : at ≤ end = omega (arith, ap length is, N.length-take-le end new fits, N.length-append (take at old) text) in
+    let upto : at + (end - at) ≡ end = omega arith in
+    let front : take at new ≡ take at (take end new) = grind (arith, N.take-take) in
+    let back : take (end - at) (drop at new) ≡ drop at (take end new) = grind (arith, N.drop-take) in
+    grind (arith, N.take-append-le, N.take_all, drop-append-le, N.drop_all)
 
-    total : end ≡ length (take made old) + length e
-    total = sym (N.length-take-le end new fits) ∙ ap length is ∙ N.length-append (take made old) e
-
-    later : at ≤ end
-    later = omega (arith, size, total)
-
-    before : take at new ≡ take at old
-    before = sym (N.take-take at end new later) ∙ ap (take at) is ∙ N.take-append-le at (take made old) e (omega (arith, size)) ∙ N.take-take at made old begun
-
-    upto : at + (end - at) ≡ end
-    upto = omega (arith, later)
-
-    split : at + (made - at) ≡ made
-    split = omega arith
-
-    after : take (end - at) (drop at new) ≡ take (made - at) (drop at old) ++ e
-    after = sym (N.drop-take at (end - at) new) ∙ ap (λ (n : ℕ). drop at (take n new)) upto ∙ ap (drop at) is
-        ∙ drop-append-le at (take made old) e (omega (arith, size))
-        ∙ ap (λ l. l ++ e) (ap (λ (n : ℕ). drop at (take n old)) (sym split) ∙ N.drop-take at (made - at) old)
+-- what stands before `at`, where more than that is kept
+pub front_kept : (at k : ℕ) (old x new : List ℕ) → at ≤ length old → take (at + k) new ≡ take (at + k) (take at old ++ x) → take at new ≡ take at old
+front_kept at k old x new within kept =
+    let front : take at new ≡ take at (take (at + k) new) = grind (arith, N.take-take) in
+    let back : take at (take at old ++ x) ≡ take at (take (at + k) (take at old ++ x)) = grind (arith, N.take-take) in
+    grind (arith, made_same)
 
 -- a comma, a field and the end of a line that stand from `at` on
-pub line_beyond : (at k m end : ℕ) (old comma rest text new e : List ℕ) → (at ≤ length old) × (k ≤ length comma) × ((at + k) + m ≤ length text)
-    × (end ≤ length new) → take (at + k) text ≡ take (at + k) (take at old ++ (comma ++ rest)) → take end new ≡ take ((at + k) + m) text ++ e
-    → (at ≤ end) × ((take at new ≡ take at old) × (take (end - at) (drop at new) ≡ (take k comma ++ take m (drop (at + k) text)) ++ e))
-line_beyond at k m end old comma rest text new e (within, few, fits, ends) kept is =
-    let x = ended_beyond at end ((at + k) + m) text new e (omega arith) fits ends is in
-    (x.0, (x.1.0 ∙ front, x.1.1 ∙ ap (λ l. l ++ e) both))
-  where
-    start : List ℕ
-    start = take at old ++ (comma ++ rest)
-
-    before : at ≤ at + k
-    before = omega arith
-
-    front : take at text ≡ take at old
-    front = sym (N.take-take at (at + k) text before) ∙ ap (take at) kept ∙ N.take-take at (at + k) start before
-        ∙ N.take-append-le at (take at old) (comma ++ rest) (omega (arith, N.length-take-le at old within)) ∙ N.take-take at at old (omega arith)
-
-    first : take k (drop at text) ≡ take k comma
-    first = ap (λ (n : ℕ). take n (drop at text)) (omega arith) ∙ same_beyond at (at + k) start text before kept
-        ∙ ap (λ (n : ℕ). take n (drop at start)) (omega arith) ∙ beyond_kept at k old comma rest within few
-
-    both : take (((at + k) + m) - at) (drop at text) ≡ take k comma ++ take m (drop (at + k) text)
-    both = ap (λ (n : ℕ). take n (drop at text)) (omega arith) ∙ N.take-add k m (drop at text)
-        ∙ ap (λ l. l ++ take m (drop k (drop at text))) first ∙ ap (λ l. take k comma ++ take m l) (N.drop-drop k at text)
+pub line_beyond : (at k m end : ℕ) (old comma rest text new e : List ℕ) → (at ≤ length old) × (k ≤ length comma) × (end ≤ length new)
+    → take (at + k) text ≡ take (at + k) (take at old ++ (comma ++ rest)) → take end new ≡ take ((at + k) + m) text ++ e
+    → StandsFrom at end old new ((take k comma ++ take m (drop (at + k) text)) ++ e)
+line_beyond at k m end old comma _ text new e (within, few, ends) kept is =
+    beyond at end old new _ within ends (grind (arith, N.take-add, N.append_assoc, made_more))
 
 -- what is left of the bytes, after some more of them
 pub left_after : (bytes rest : List ℕ) (u : ℕ) → length rest ≤ length bytes → rest ≡ drop (length bytes - length rest) bytes → u ≤ length rest
@@ -249,43 +192,31 @@ pub fields_step : {formats : List CellFormat} {bytes : List ℕ} {room more_room
     → FieldsAt formats bytes room cells used made → now ≡ used + u → more_room ≡ room → cells < length formats → u ≤ length bytes - used → made + m + 2 ≤ room
     → u ≡ N.whole_size (get_or formats cells d).kind (unused used bytes)
     → FieldsAt formats bytes more_room (cells + 1) now (made + m + 1)
-fields_step {formats = formats} {bytes = bytes} {cells = cells} {used = used} u m d x further same there within fits whole =
-    let more = whole_some (get_or formats cells d).kind (unused used bytes) in
-    record {
-      few = omega arith;
-      taken = omega arith;
-      fits = omega arith;
-      begun = omega arith;
-      some = omega arith;
-      further = omega arith;
-    }
+fields_step _ _ _ _ further same there within fits whole = grind (arith, whole_some)
 
--- a run ended here, with what was made as it was
-pub fields_end : {charset : Charset} {formats : List CellFormat} {column : ℕ} {bytes : List ℕ} {cells used made : ℕ} (to new : List ℕ)
-    → FieldsAt formats bytes (length to) cells used made → length new ≡ length to → take made new ≡ take made to
-    → FieldsWritten charset formats column bytes to (record { cells = cells; used = used; made = made })
-    → N.WritesFields charset formats column bytes new (record { cells = cells; used = used; made = made })
-fields_end to new at size same x = record {
-  within = grind arith;
-  room = grind arith;
-  fields = x.0;
-  writes = x.1;
-  text_is = same ∙ x.2;
+-- a run that began after some text ended here
+pub fields_end : {charset : Charset} {formats : List CellFormat} {column : ℕ} {bytes : List ℕ} {cells used : ℕ} (at made : ℕ) (old to new : List ℕ)
+    → FieldsAt formats bytes (length new - at) cells used (made - at) → (at ≤ length old) × (made ≤ length new) → take made new ≡ take made to
+    → FieldsWritten charset formats column bytes (take at old) to (record { cells = cells; used = used; made = made })
+    → N.WritesFields charset formats column bytes (drop at new) (record { cells = cells; used = used; made = made - at })
+fields_end at made old _ new x (within, fits) same w = record {
+  within = grind (arith, N.length-drop);
+  room = grind (arith, N.length-drop);
+  fields = w.fields;
+  writes = w.writes;
+  text_is = (beyond at made old new _ within fits (same ∙ w.text_is)).text_is;
 }
 
 -- its last comma gives way to the end of the line, or to nothing
 pub ended_run : {charset : Charset} {formats : List CellFormat} {column cells used : ℕ} {bytes : List ℕ} (at end made : ℕ) (old new e : List ℕ) → 0 < cells
     → N.WritesFields charset formats column bytes (drop at old) (record { cells = cells; used = used; made = made - at }) → at ≤ made
     → end ≤ (made - 1) + 2 → length new ≡ length old → take end new ≡ take (made - 1) old ++ e
-    → ((at ≤ end) × (end ≤ length new))
-    × ((take at new ≡ take at old) × (take (end - at) (drop at new) ≡ take ((made - at) - 1) (drop at old) ++ e))
+    → (end ≤ length new) × StandsFrom at end old new (take ((made - at) - 1) (drop at old) ++ e)
 ended_run at end made old new e some x begun most same is =
     let room = x.room some in
-    let size = N.length-drop at old in
-    let fits : end ≤ length new = omega arith in
-    let less : (made - 1) - at ≡ (made - at) - 1 = omega arith in
-    let y = ended_beyond at end (made - 1) old new e (omega (arith, room)) (omega arith) fits is in
-    ((y.0, fits), (y.1.0, rw less at y.1.1))
+    let fits : end ≤ length new = omega (arith, N.length-drop at old) in
+    let split : made - 1 ≡ at + ((made - at) - 1) = omega arith in
+    (fits, beyond at end old new _ (omega (arith, N.length-drop at old)) fits (is ∙ rw (split, N.take-add) (N.append_assoc (take at old) _ e)))
 
 -- the run is over once the end of the line, or nothing, stands over the last comma
 pub fields_run : {charset : Charset} {formats : List CellFormat} {column : ℕ} {ends : Bool} {bytes text : List ℕ} {run : N.FormatsRun} (room made : ℕ)

@@ -3,9 +3,6 @@ use Rattle.tds_cells.proofs as N
 use N.{◌&&◌, ◌≡◌, ℕ, ◌<◌, true, List, length, arith, Kind, CellFormat, Layout, Each}
 use Rattle.tds_cells.specs.declared.layout.Layout.TheVariants.{Chunked, Counted, Fixed, Short as ShortLayout}
 
-pub each_all : (P : CellFormat → Type 0) (n : ℕ) (f : CellFormat) → P f → Each P (N.replicate n f)
-each_all P n f is k d here = grind (arith, N.get_or-replicate, N.length-replicate)
-
 pub each_set : (P : CellFormat → Type 0) (formats : List CellFormat) (k : ℕ) (f : CellFormat) → Each P formats → k < length formats → P f
     → Each P (N.slice_set formats k f)
 each_set P _ k f all _ is j d here = search N.rules

@@ -44,24 +44,24 @@ row_begun {at = at} {bytes = bytes} {run = run} some end (begins, first) ahead x
           );
     }
 
--- more cells of the last row, in the bytes that are left and after what was made
-pub more_in_rows : {row_format : RowFormat} {columns : List Column} {old new : Cursor} {count : ℕ} (from : Cursor) (used u : ℕ) {made m : ℕ}
-    (bytes to text rest : List ℕ) → made ≤ length to → m ≤ length text → RowsBetween row_format columns from old count (take used bytes) (take made to)
-    → RunsMarked row_format columns (λ k. false) old new (take u (unused used bytes)) (take m text)
-    → RowsBetween row_format columns from new count (take (used + u) bytes) (take (made + m) (take made to ++ (text ++ rest)))
-more_in_rows _ _ u _ _ _ _ within some x y = grind (arith, used_more, made_more, marked_writes)
+-- more cells of the last row
+more_in_rows : {row_format : RowFormat} {columns : List Column} {old new : Cursor} {count : ℕ} {a b p q : List ℕ} (from : Cursor)
+    → RowsBetween row_format columns from old count a p → RunsMarked row_format columns (λ k. false) old new b q
+    → RowsBetween row_format columns from new count (a ++ b) (p ++ q)
+more_in_rows from x y = grind (arith, marked_writes)
 
--- the same of what a run over rows has done
-pub rows_more : {row_format : RowFormat} {from at new : Cursor} {bytes to : List ℕ} {run : N.RowsSpan} {u m : ℕ} (text rest : List ℕ) → 0 < u
-    → u ≤ length (unused run.used bytes) → m ≤ length text
-    → N.CellsWritten row_format (λ k. false) at new (take u (unused run.used bytes)) (take m text) → Ran row_format Unmarked from at bytes to run
-    → Ran row_format Unmarked from new bytes (take run.made to ++ (text ++ rest))
-    (record { used = run.used + u; made = run.made + m; rows = run.rows })
-rows_more {from = from} {bytes = bytes} {to = to} {run = run} text rest _ within fits gives x = record {
+-- the same of what a run over rows has done, in the bytes that are left and after what was made
+pub rows_more : {row_format : RowFormat} {from at new : Cursor} {bytes to : List ℕ} {run : N.RowsSpan} (u made : ℕ) (text after : List ℕ) → 0 < u
+    → u ≤ length (unused run.used bytes) → made ≤ length after → take made after ≡ take run.made to ++ text
+    → N.CellsWritten row_format (λ k. false) at new (take u (unused run.used bytes)) text → Ran row_format Unmarked from at bytes to run
+    → Ran row_format Unmarked from new bytes after (record { used = run.used + u; made = made; rows = run.rows })
+rows_more {from = from} {bytes = bytes} {run = run} u _ _ _ _ within fits is gives x = record {
   used = grind (arith, N.length-take);
-  made = grind (arith, N.length-append, N.length-take-le);
+  made = fits;
   few = omega arith;
-  writes = λ columns knows is. (let y = x.writes columns knows is in more_in_rows from _ _ _ _ _ _ x.made fits y (gives columns knows y.0));
+  writes = λ columns knows begun.
+      let y = x.writes columns knows begun in
+      rw (used_more run.used u bytes, is) (more_in_rows from y (gives columns knows y.0));
 }
 
 -- the cells of a run within a row, none of which is NULL by its bit
@@ -83,13 +83,15 @@ rows_further {bytes = bytes} {to = to} {run = run} {more = more} text rest x y =
   used = grind (arith, N.length-take);
   made = grind (arith, N.length-append, N.length-take-le);
   few = omega arith;
-  writes = λ columns knows ahead. (let u = x.writes columns knows ahead in let v = y.writes columns knows u.0 in (
-    v.0,
-    λ charset cells set counted. (let w = u.1 charset cells set counted in rw (
-      used_more run.used more.used bytes,
-      made_more run.made more.made to text rest x.made y.made,
-    ) (rows_both w (grind arith))),
-  ));
+  writes = λ columns knows begun.
+      let (ahead, first) = x.writes columns knows begun in
+      let (there, then_more) = y.writes columns knows ahead in (
+        there,
+        λ charset cells set counted.
+            let w = first charset cells set counted in
+            rw (used_more run.used more.used bytes, made_more run.made more.made to text rest x.made y.made)
+            (rows_both w (then_more charset w.more set w.counted)),
+      );
 }
 
 -- ---- the cells of an NBCROW
@@ -145,15 +147,15 @@ module _ {row_format : RowFormat} {columns : List Column} {nulls : ℕ → Bool}
   runs_clear clear x = grind (arith, marked_clear)
 
   -- more cells, in the bytes that are left and after what was made
-  pub runs_more : (at : Cursor) (used u made m : ℕ) (bytes text new rest : List ℕ) → made ≤ length text → m ≤ length new
+  pub runs_more : (at : Cursor) (used u made m : ℕ) (bytes text new cells : List ℕ) → take m new ≡ take made text ++ cells
       → RunsMarked row_format columns nulls from at (take used bytes) (take made text)
-      → RunsMarked row_format columns nulls at to (take u (take (length bytes - used) (drop used bytes))) (take m new)
-      → RunsMarked row_format columns nulls from to (take (used + u) bytes) (take (made + m) (take made text ++ (new ++ rest)))
-  runs_more at used u made m bytes text new rest within some x y = record {
+      → RunsMarked row_format columns nulls at to (take u (unused used bytes)) cells
+      → RunsMarked row_format columns nulls from to (take (used + u) bytes) (take m new)
+  runs_more at used u made m bytes text new cells is x y = record {
     count = x.count + y.count;
     ahead = y.ahead;
     further = omega arith;
-    writes = grind (arith, used_more, made_more, marked_both);
+    writes = rw (is, used_more used u bytes) (marked_both _ _ nulls from.column x.count y.count _ _ _ _ x.writes (rw x.further at y.writes));
   }
 
 -- a run ended before a column whose bit is clear
@@ -165,27 +167,25 @@ ends_clear _ _ at bytes room clear x =
 
 -- ---- the formats of the next columns
 
+-- some of the first ones
+part_of : {A B : Type 0} (k n known : ℕ) (f : A → B) (xs : List A) → k + n ≤ known
+    → N.map f (take n (drop k xs)) ≡ drop k (take (k + n) (N.map f (take known xs)))
+part_of k n known f xs within = grind (arith, N.take-map, N.drop-map, N.take-take, N.drop-take)
+
 -- those that a row format knows, from a place in a row on
 pub known_ahead : (row_format : RowFormat) (at : Cursor) (end : ℕ) (n : ℕ) → N.Each (λ f. N.IsLaidOut row_format.charset f.kind f.layout) row_format.formats.now
     → row_format.known ≤ length row_format.formats.now → 0 < n
     → at.column + n ≤ end → at.column + n ≤ row_format.known → row_format.known ≤ row_format.count
     → N.AreAtCursor row_format at end (take n (drop at.column row_format.formats.now))
-known_ahead _ at end n laid fits some within known few =
-    let k = at.column in
-    let len = N.length-take-le n _ (grind (arith, N.length-drop)) in
+known_ahead row_format at end n laid fits some within known few =
+    let len = N.length-take-le n (drop at.column row_format.formats.now) (grind (arith, N.length-drop)) in
     record {
       laid = grind (arith, N.common_steps);
       some = omega arith;
       within = omega arith;
       known = grind arith;
-      next = λ columns knows ahead.
-          let first =
-          ap (N.map _) (sym (N.take-take _ _ _ known)) ∙ sym (N.take-map _ _ _) ∙ ap (take _) knows.first
-          ∙ N.take-map _ _ _ ∙ ap (N.map (λ (c : Column). c.kind)) (N.take-take _ _ columns known) in
-          let formats_are =
-          ap (N.map _) (sym (N.drop-take k n _)) ∙ sym (N.drop-map _ k _) ∙ ap (drop k) first ∙ N.drop-map _ k _
-          ∙ ap (N.map (λ (c : Column). c.kind)) (N.drop-take k n columns) in
-          formats_are ∙ ap (λ m. N.map (λ (c : Column). c.kind) (take m (drop k columns))) (sym len);
+      next = λ columns knows ahead. rw (len, part_of at.column n _ (λ f. f.kind) row_format.formats.now known, knows.first)
+          (sym (part_of at.column n _ (λ c. c.kind) columns known));
     }
 
 -- no cell was written where no byte was used
@@ -260,7 +260,7 @@ pub rest_ahead : (row_format : RowFormat) (at : Cursor) (row : List CellFormat) 
 rest_ahead row_format at row all are some =
     let n = row_format.known - at.column in
     let split : row_format.known ≡ at.column + n = omega arith in
-    let rest = ap (drop at.column) (are ∙ ap (λ m. take m row_format.formats.now) split) ∙ N.drop-take at.column n row_format.formats.now in
+    let rest : drop at.column row ≡ take n (drop at.column row_format.formats.now) = grind (arith, N.drop-take) in
     let counted = N.length-take-le n (drop at.column row_format.formats.now) (omega
     (arith, N.length-drop at.column row_format.formats.now, row_format.there)) in (grind (arith, known_ahead))
 
@@ -271,18 +271,15 @@ pub row_far : {from : Cursor} {bytes to : List ℕ} {rows used made : ℕ} (row_
     → N.RunsFormats row_format.charset row 0 true (drop used bytes) (length to - made) (drop made new) (N.run_since (record { used = used; made = made }) run)
     → Ran row_format Unmarked from (record from { column = 0 }) bytes to (record { used = used; made = made; rows = rows })
     → Ran row_format Unmarked from (record from { column = row_format.count }) bytes new (record { used = run.used; made = run.made; rows = rows })
-row_far {from = from} {bytes = bytes} {to = to} {used = u} {made = m} row_format row run new all some are whole same size begun written x =
+row_far {from} {bytes = bytes} {used = u} {made = m} row_format row run new all some are whole same size begun written x =
     let next = rest_ahead row_format (record from { column = 0 }) row all are some in
-    let made = drop m new in
-    let rest = N.all_after bytes u in
-    let kept : new ≡ take m to ++ (made ++ []) =
-    grind (arith, N.take-append-drop, N.append-nil) in
     let used : run.used ≡ u + (run.used - u) = omega arith in
-    let end : run.made ≡ m + (run.made - m) = omega arith in
-    rw (kept, used, end) (rows_more {u = run.used - u} {m = run.made - m}
-    made [] (written.within.some (omega arith)) (rw rest written.within.used)
-    (omega (arith, written.within.made, N.length-drop m new))
-    (grind (arith, formats_between, N.eq-eqb, place_known)) x)
+    let end : m + (run.made - m) ≡ run.made = omega arith in
+    let text = N.take-add m (run.made - m) new in
+    rw used (rows_more (run.used - u) run.made (take (run.made - m) (drop m new)) new (written.within.some (omega arith))
+    (rw (N.all_after bytes u) written.within.used)
+    (omega (arith, written.within.made, N.length-drop m new)) (grind arith)
+    (rw (N.all_after bytes u) (grind (arith, formats_between, N.eq-eqb, place_known))) x)
 
 abbrev pub known_span : N.KnownRun → N.RowsSpan
 known_span run = record { used = run.used; made = run.made; rows = run.rows }

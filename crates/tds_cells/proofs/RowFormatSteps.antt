@@ -102,7 +102,3 @@ none_next _ k whole all = grind (arith, N.drop_all)
 -- as many lie before where the place is the row's end
 pub all_before : {k n : ℕ} → N.true ≡ (k == n) → n ≤ k
 all_before is = grind arith
-
--- none is next at the row's end
-pub at_end : (columns : List Column) (k n : ℕ) → n ≡ length columns → (k == n) ≡ N.true → drop k columns ≡ []
-at_end _ k n whole is = grind (arith, none_next)

@@ -24,9 +24,6 @@ joined_snoc (g ∷ h ∷ gs) f = grind (arith, N.append_assoc, (joined_snoc (h �
 pub start_quiet : (kind : N.Kind) (s : N.Shape) → N.field_so_far (N.cell_start kind s) ≡ None
 start_quiet _ s = grind arith
 
-pub quiet_text : (column : ℕ) (last : Bool) (at : CellPart) → N.field_so_far at ≡ None → cell_so_far column last at ≡ []
-quiet_text _ _ at h = grind arith
-
 -- ---- a cell in its row
 
 pub fields_more : (cells : List Cell) (v : List ℕ) → joined (map field cells) ++ N.after_comma (length cells) v ≡ joined (map field cells ++ v ∷ [])

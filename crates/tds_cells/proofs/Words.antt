@@ -1,13 +1,12 @@
 -- The words that the proofs of this crate share.
-pub use Rattle.std.proofs.Common.{refl, ◌+◌, subst, take, ◌⊎◌, replicate, arith, suc, zero, length, Result, length-append, inr, Bool, ◌++◌, false}
-pub use Rattle.std.proofs.Common.{ap, add-zero, ◌∙◌, Ok, ◌≡◌, append_assoc, drop, ℕ, ◌≤◌, [], sym, ◌∷◌, ◌%◌, ◌/◌, ◌-◌, inl, append-nil, ◌*◌, ◌≢◌, get_or}
-pub use Rattle.std.proofs.Common.{◌^◌, List, ◌<◌, true, rules}
+pub use Rattle.std.proofs.Common.{refl, ◌+◌, subst, take, ◌⊎◌, replicate, arith, suc, zero, length, Result, length-append, inr, Bool, ◌++◌, false, ap, add-zero}
+pub use Rattle.std.proofs.Common.{◌∙◌, Ok, ◌≡◌, append_assoc, drop, ℕ, ◌≤◌, [], sym, ◌∷◌, ◌%◌, ◌/◌, ◌-◌, inl, append-nil, ◌*◌, ◌≢◌, get_or, ◌^◌, List, ◌<◌}
+pub use Rattle.std.proofs.Common.{true, rules}
 pub use Rattle.std.proofs.Math.Seq.{take-append-add, take-add, take-append_seam}
 pub use Rattle.std.proofs.lemmas.Bool.{ne_eqb, eq-eqb, and_from, or_left, or_right}
 pub use Rattle.std.proofs.lemmas.Grind.{common_steps}
-pub use Rattle.std.proofs.lemmas.List.{take_more, get_or-map, length-drop, take-map, length-take, take_more_set, drop_more, drop-map}
-pub use Rattle.std.proofs.lemmas.List.{get_or-replicate, drop-take, get_or-take, length-map, length-take-le, length-replicate, get_or_default}
-pub use Rattle.std.proofs.lemmas.List.{map-append, drop-drop, take_all, take-append-drop, take-take, take-append-le, drop_all}
+pub use Rattle.std.proofs.lemmas.List.{take_more, get_or-map, length-drop, take-map, length-take, take_more_set, drop_more, drop-map, drop-take, get_or-take}
+pub use Rattle.std.proofs.lemmas.List.{length-map, length-take-le, get_or_default, map-append, drop-drop, take_all, take-take, take-append-le, drop_all}
 pub use Rattle.std.proofs.lemmas.List.Folds.{concat-append, list_all_more}
 pub use Rattle.std.specs.Iterator.{YieldsFirstBy}
 pub use Rattle.std.specs.List.{concat, list_all}
@@ -21,44 +20,35 @@ pub use Rattle.tds_columns.specs.Walking.{columns_left, column_value}
 pub use Rattle.tds_columns.specs.declared.walk.Walk.{Walk}
 pub use Rattle.tds_text.proofs.OpenTexts.{open_closes, open_grows}
 pub use Rattle.tds_text.proofs.ConversionLaws.{no_data_is_fit, fit_begins, fit_units, begun_by_test}
-pub use Rattle.tds_text.specs.Conversion.{is_begun, Conversion, is_fit, long_field, unit}
-pub use Rattle.tds_text.specs.Conversion.{closing, open_field, conversion_text}
+pub use Rattle.tds_text.specs.Conversion.{is_begun, Conversion, is_fit, long_field, unit, closing, open_field, conversion_text}
 pub use Rattle.tds_text.specs.Quoting.{null_field, joined, after_comma, in_line, line, end_after}
 pub use Rattle.tds_text.specs.declared.fields.Content.{Content}
 pub use Rattle.tds_packet.proofs.Choices.{test_lt, choose_false, choose_true, eq_false, eq_true, choose}
-pub use Rattle.tds_packet.proofs.ElementLaws.{Spelt-induct, AreBytes-back, one_state, Spelt-step, Inside}
-pub use Rattle.tds_packet.proofs.ElementLaws.{refused_for_good, AreBytes-front, Spelt-append, Spelt-one, Inside-Spelt}
+pub use Rattle.tds_packet.proofs.ElementLaws.{Spelt-induct, AreBytes-back, one_state, Spelt-step, Inside, refused_for_good, AreBytes-front, Spelt-append}
+pub use Rattle.tds_packet.proofs.ElementLaws.{Spelt-one, Inside-Spelt}
 pub use Rattle.tds_packet.proofs.InnerGrammars.{next_some}
 pub use Rattle.tds_packet.specs.Elements.{IsRefused, AreBytes, Grammar, Spelt, IsNext, Leads}
 pub use Rattle.tds_packet.specs.declared.fault.Fault.{Fault}
 pub use Rattle.tds_packet.specs.declared.fault.Fault.TheVariants.{PlpLength}
-pub use Rattle.tds_cells.specs.CellTexts.{IsScalarLeft, cell_so_far, opened, IsLeft, WritesKind, is_counted, is_last_column}
-pub use Rattle.tds_cells.specs.CellTexts.{is_int4, WritesField, whole_size}
+pub use Rattle.tds_cells.specs.CellTexts.{IsScalarLeft, cell_so_far, opened, IsLeft, WritesKind, is_counted, is_last_column, is_int4, WritesField, whole_size}
 pub use Rattle.tds_cells.specs.Cells.{cell_fault, ShortData, within_total, ScalarLength, ScalarCell, WholeCell, CountedShape, cell, ChunkLength, value_part}
-pub use Rattle.tds_cells.specs.Cells.{end_of_chunks, ShortLength, cell_start, cell_add, Null}
-pub use Rattle.tds_cells.specs.Cells.{SpellsChunked, cell_size, unless, shape}
-pub use Rattle.tds_cells.specs.Cells.{ScalarBytes, Total, field, Shape, known_total, FixedShape, field_so_far, ChunkData, CellPart}
-pub use Rattle.tds_cells.specs.Cells.{SpellsChunk, SpellsChunks, LongShape, Cell, is_total, SpellsCell}
-pub use Rattle.tds_cells.specs.Cells.{DataCell}
-pub use Rattle.tds_cells.specs.FormatRuns.{run_since, FirstLeft, WritesFormats, RunsFormats}
-pub use Rattle.tds_cells.specs.FormatRuns.{WritesFields}
+pub use Rattle.tds_cells.specs.Cells.{end_of_chunks, ShortLength, cell_start, cell_add, Null, SpellsChunked, cell_size, unless, shape, ScalarBytes, Total}
+pub use Rattle.tds_cells.specs.Cells.{field, Shape, known_total, FixedShape, field_so_far, ChunkData, CellPart, SpellsChunk, SpellsChunks, LongShape, Cell}
+pub use Rattle.tds_cells.specs.Cells.{is_total, SpellsCell, DataCell}
+pub use Rattle.tds_cells.specs.FormatRuns.{run_since, FirstLeft, WritesFormats, RunsFormats, WritesFields}
 pub use Rattle.tds_cells.specs.Formats.{Each}
 pub use Rattle.tds_cells.specs.Layouts.{IsLaidOut}
-pub use Rattle.tds_cells.specs.MarkedRuns.{WritesColumn, EndsFar, EndsLeft, CellsWritten, BitsAre, WritesMarked}
-pub use Rattle.tds_cells.specs.MarkedRuns.{RunsMarked}
+pub use Rattle.tds_cells.specs.MarkedRuns.{WritesColumn, EndsFar, EndsLeft, CellsWritten, BitsAre, WritesMarked, RunsMarked}
 pub use Rattle.tds_cells.specs.MarkedRows.{EndsNbcRows, WritesNbcRows, WritesWholeRows}
-pub use Rattle.tds_cells.specs.Rows.{marked, WholeRow, bitmap_length, row_add, SpellsMarked, bit, RowToken, Bitmap, PlainRow, with_cell, RowPart}
-pub use Rattle.tds_cells.specs.Rows.{SpellsRow, row, NbcRow, row_so_far, with_field, row_size, InCell, token_byte, row_start}
-pub use Rattle.tds_cells.specs.Rows.{next_cell}
-pub use Rattle.tds_cells.specs.Runs.{KnownRan, rows_so_far, lines, rows, Writes, after_cells, RowsPart}
-pub use Rattle.tds_cells.specs.Runs.{WritesRows}
+pub use Rattle.tds_cells.specs.Rows.{marked, WholeRow, bitmap_length, row_add, SpellsMarked, bit, RowToken, Bitmap, PlainRow, with_cell, RowPart, SpellsRow}
+pub use Rattle.tds_cells.specs.Rows.{row, NbcRow, row_so_far, with_field, row_size, InCell, token_byte, row_start, next_cell}
+pub use Rattle.tds_cells.specs.Runs.{KnownRan, rows_so_far, lines, rows, Writes, after_cells, RowsPart, WritesRows, Ran}
 pub use Rattle.tds_cells.specs.LongFields.{HasOneChunk, IsLongLeft, LongWritten, chunk_end, chunks_size, long_size}
 pub use Rattle.tds_cells.specs.RowFormats.{BeginsRow, IsCursor, AreAtCursor, Knows, NextColumn, place}
 pub use Rattle.tds_cells.specs.WholeCells.{WritesCell, WritesWhole}
 pub use Rattle.tds_cells.specs.declared.layout.CellFormat.{CellFormat}
 pub use Rattle.tds_cells.specs.declared.layout.Layout.{Layout}
 pub use Rattle.tds_cells.specs.declared.whole.TheConstants.{CELL_ROOM}
-pub use Rattle.tds_cells.specs.Runs.{Ran}
 pub use Rattle.tds_cells.specs.declared.run.RowsSpan.{RowsSpan}
 pub use Rattle.tds_cells.specs.declared.nulls.Nulls.TheVariants.{Unmarked}
 pub use Rattle.tds_cells.specs.declared.run.KnownRun.{KnownRun}

@@ -1,6 +1,6 @@
 use Rattle.tds_cells.proofs as N
 use N.row_format.RowFormat.run_far_marked.Goals as goal
-use N.{◌∙◌, ◌+◌, ◌≤◌, [], arith}
+use N.{◌∙◌, ◌+◌, ◌++◌, ◌≤◌, [], arith, take}
 use N.row_format.RowFormat.run_far_marked.Goals.{then-is_null, else-is_null+in-Some-next}
 use N.RowFormatRuns.{runs_column, runs_more}
 
@@ -19,7 +19,7 @@ loop-used-preserved c =
             room = search arith;
             writes = λ columns knows ahead.
                 let ran = l.invariant.writes columns knows ahead in
-                rw (N.sym (N.add-zero l.used)) (grind (arith, runs_more));
+                rw (N.sym (N.add-zero l.used)) (grind (arith, runs_more, N.RunSteps.made_more));
           })
       -- one that isn't
       | else-is_null+in-Some-next w ↦
@@ -28,8 +28,6 @@ loop-used-preserved c =
           let new = far.new.to in
           let cell = w.in-Some-next.ensures.cell in
           let clear = N.sym c.is_null.ensures ∙ w.if-is_null.false in
-          let new_is = N.FormatSteps.written_after l.made l.to new l.invariant.made (search arith) far.ensures.kept in
-          let within : made ≤ N.length (N.drop l.made new) = grind (arith, N.length-drop) in
           rw (w.to-is, w.used-is, w.made-is) (record {
             used = grind (arith, N.length-drop);
             made = search arith;
@@ -40,6 +38,7 @@ loop-used-preserved c =
                 let taken = N.RowFormatSteps.takes (c.in-Some.ensures.next columns knows ran.ahead) further (c.pass.ensures.ahead columns knows ran.ahead) in
                 let last = c.is_last-last.ensures ∙ N.RowFormatSteps.last_one _ _ _ _ _ knows.counted taken.next in
                 let whole = rw last at (rw (N.sym (N.all_after c.args.bytes.now l.used)) at cell.1.whole) in
-                rw new_is (runs_more _ _ _ _ _ _ _ _ _ l.invariant.made within ran (runs_column taken N.refl clear whole));
+                runs_more _ _ _ _ _ _ l.to new _ (N.take-add l.made made new ∙ N.ap (λ t. t ++ take made (N.drop l.made new)) far.ensures.kept) ran
+                (runs_column taken N.refl clear whole);
           })
     ]

@@ -1,5 +1,6 @@
 use Rattle.tds_cells.proofs as N
 use N.row_format.RowFormat.run_known.Goals as goal
+use N.RunSteps.{made_more}
 use N.{place, refl, arith, ◌≡◌, ◌∙◌, ◌+◌, ◌-◌, length}
 use N.RowFormatRuns.{known_ran, ran_at, first_left, formats_between, place_known, row_begun, rows_begin, rows_further, rows_kept, rows_more}
 use borrow.Rule.Slice.PartMut.{put_mid, same_len_mid}
@@ -20,8 +21,10 @@ loop-formats-preserved g c =
     let fast = c.run_fast-fast in
     let run = c.run_formats-run in
     let some = run.ensures.run.within.some (omega arith) in
-    known_ran (λ walk. rows_more {new = place walk (fast.result.column + run.result.cells)} {u = run.result.used} {m = run.result.made}
-    _ _ some (search arith) (search arith)
+    let made = c.loop-formats.made + fast.result.made in
+    known_ran (λ walk. rows_more {new = place walk (fast.result.column + run.result.cells)} run.result.used (made + run.result.made) _ _ some
+    (search arith) (search arith) (made_more made run.result.made (put_mid c.loop-formats.made _ c.loop-formats.to fast.new.to) run.new.to _
+    (search arith) (search arith))
     (λ columns knows is. formats_between _ _ _ _ (omega arith) (c.in-Some.ensures.ahead walk) _ (N.sym (N.eq-eqb _ _ c.in-Some.ensures.whole)) _ knows is
     _ _ _ run.result refl (grind (arith, place_known)) run.ensures.run.cells)
     (rows_further fast.new.to _ (ran_at c.loop-formats.invariant walk) (ran_at fast.ensures.rows walk)))

@@ -1,6 +1,6 @@
 use Rattle.tds_cells.proofs as N
 use N.row_format.RowFormat.run_partly_known.Goals as goal
-use N.{arith, ◌≡◌, ◌∙◌, ◌-◌, length, sym}
+use N.{arith, ◌≡◌, ◌∙◌, ◌+◌, ◌-◌, length, sym}
 
 pub loop-run-init : goal.loop-run-init
 loop-run-init c = rw c.none-run.ensures N.RowFormatRuns.rows_begin
@@ -11,7 +11,11 @@ loop-run-preserved-then-is_end c = N.RowFormatRuns.row_begun c.requires.some (gr
     (grind arith) c.loop-run.invariant
 
 pub loop-run-preserved : goal.loop-run-preserved
-loop-run-preserved c = N.RowFormatRuns.rows_more _ _ (omega arith) (search arith) (search arith)
+loop-run-preserved c =
+    let run = c.loop-run.run in
+    let cells = c.run_cells-cells.result in
+    N.RowFormatRuns.rows_more cells.used (run.made + cells.made) _ _ (omega arith) (search arith) (search arith)
+    (N.RunSteps.made_more run.made cells.made c.loop-run.to c.run_cells-cells.new.to _ (search arith) (search arith))
     c.run_cells-cells.ensures.cells c.loop-run.invariant
 
 pub returns-then-cells-eq0-clause-ends : goal.returns-then-cells-eq0-clause-ends

@@ -1,11 +1,10 @@
 use Rattle.tds_cells.proofs as N
 use N.row_format.RowFormat.run_unchecked.Goals as goal
 use N.{place, arith, ◌∙◌, ◌≡◌, ◌==◌, ◌+◌, ◌-◌, ◌≤◌, ◌<◌, ◌++◌, ◌∷◌, [], ap, inl, inr, length, rules, sym, take, drop, get_or, true, List, ℕ}
-use N.row_format.RowFormat.run_unchecked.Goals.{then-cells-formats-via-then-cells-formats, then-cells-formats-via-else-cells-formats+then-bytes-lt-LOOKAHEAD}
-use N.row_format.RowFormat.run_unchecked.Goals.{then-cells-formats-via-else-cells-formats+else-bytes-lt-LOOKAHEAD+then-to-lt-CELL_ROOM}
+use Rattle.tds_cells.proofs.row_format.RowFormat.run_unchecked.Goals.{In-Some}
 use N.row_format.RowFormat.run_unchecked.Goals.{then-loop-rest-test+else-made-most, else-loop-rest-test}
 use N.row_format.RowFormat.run_unchecked.Goals.{then-loop-rest-test+then-made-most+in_default as cell_left}
-use N.FarRuns.{begins_in, begins_some, comma_made, comma_size, comma_most, comma_one, far_left, rest_more, row_length}
+use N.FarRuns.{begins_in, begins_some, comma_made, comma_size, comma_most, comma_one, far_left, far_more, row_length}
 use N.FormatSteps.{left_after}
 use N.RowFormatRuns.{known_ran, ran_at, first_left, place_known, rest_ahead, row_begun, rows_begin, rows_kept}
 use N.RunSteps.{unused}
@@ -25,128 +24,125 @@ loop-rest-init c =
     let row_format = c.args.self.now in
     let row = row_length row_format c.row-formats.result.now c.requires.all c.row-formats.ensures.row in
     let comma = c.write_comma-made in
-    let fits : comma.result ≤ length comma.new.to = search (arith, rules) in
-    let made_is = comma_made comma.result c.args.column comma.new.to fits (comma.ensures.text []) in
+    let made_is = comma_made comma.result c.args.column comma.new.to (search (arith, rules)) (comma.ensures.text []) in
     let none : comma.result - comma_size c.args.column ≡ 0 = omega arith in
     let unused_none : length c.args.bytes.now - length c.args.bytes.now ≡ 0 = omega arith in
     record {
-      within = omega arith;
-      rest = grind arith;
       size = search (arith, rules);
-      some = omega arith;
-      begun = omega arith;
-      comma = grind arith;
-      ran = rw (none, unused_none) (known_ran (λ walk. rows_begin));
+      at = record {
+        within = omega arith;
+        rest_is = grind arith;
+        some = omega arith;
+        begun = omega arith;
+        comma = grind arith;
+        ran = rw (none, unused_none) (known_ran (λ walk. rows_begin));
+      };
     }
+
+-- what is left after a cell that was written
+left_of : (c : In-Some) → (length c.args.bytes.now - length (unused c.in-Some.written.used c.loop-rest.rest.now)
+    ≡ (length c.args.bytes.now - length c.loop-rest.rest.now) + c.in-Some.written.used)
+    × (unused c.in-Some.written.used c.loop-rest.rest.now
+    ≡ drop ((length c.args.bytes.now - length c.loop-rest.rest.now) + c.in-Some.written.used) c.args.bytes.now)
+left_of c = left_after _ _ _ c.loop-rest.invariant.at.within c.loop-rest.invariant.at.rest_is c.in-Some.ensures.cell.0.used
+
+-- the run with that cell, whatever comes after its field
+with_cell : (c : In-Some) (end : ℕ) (final : List ℕ) → end ≤ length final
+    → take end final ≡ take (c.loop-rest.made + c.in-Some.written.made) c.write_far_cell.new.to ++ N.end_after (c.loop-rest.cells + 1 == c.args.self.now.count)
+    → N.KnownRan c.args.self.now c.args.column c.args.bytes.now final (record {
+      used = length c.args.bytes.now - length (unused c.in-Some.written.used c.loop-rest.rest.now);
+      made = end;
+      rows = c.loop-rest.rows;
+      column = c.loop-rest.cells + 1;
+    })
+with_cell c end final fits is = far_more _ _ end c.index-formats-cells.result c.write_far_cell.new.to final c.loop-rest.invariant.at c.requires.all
+    c.row-formats.ensures.row (search (arith, rules)) (left_of c).0 c.write_far_cell.ensures.kept fits is
+    (c.in-Some.ensures.cell.0.whole, c.in-Some.ensures.cell.0.used) c.in-Some.ensures.cell.1
 
 pub loop-rest-preserved-then-cells-formats-2 : goal.loop-rest-preserved-then-cells-formats-2
 loop-rest-preserved-then-cells-formats-2 c =
     let l = c.loop-rest in
     let row_format = c.args.self.now in
-    let all = c.requires.all in
-    let formats = c.row-formats.result.now in
-    let row = row_length row_format formats all c.row-formats.ensures.row in
+    let row = row_length row_format c.row-formats.result.now c.requires.all c.row-formats.ensures.row in
     let written = c.in-Some.written in
     let new = c.write_far_cell.new.to in
     let end = l.made + written.made in
-    let format = c.index-formats-cells.result in
-    let format_is : format ≡ get_or formats l.cells format = search (arith, rules) in
     let size : length new ≡ length l.to = search (arith, rules) in
     let few : l.cells + 1 < row_format.count = omega arith in
     let room : end < length new = omega (arith, c.in-Some.ensures.cell.0.made) in
     let there : (end + 1) - comma_size (l.cells + 1) ≡ end = omega (arith, comma_one l.cells) in
+    let last = N.ne_eqb (l.cells + 1) row_format.count (λ e. omega arith) in
     let same = take-set-le end new end 44 (omega arith) in
-    let bytes = c.args.bytes.now in
-    let left = left_after bytes l.rest.now written.used l.invariant.within l.invariant.rest (omega (arith, c.in-Some.ensures.cell.0.used)) in
+    let left = left_of (goal.at.loop-rest-preserved-then-cells-formats-2 c).In-Some in
     record {
-      within = omega arith;
-      rest = grind arith;
       size = search (arith, rules);
-      some = few;
-      begun = omega (arith, comma_one l.cells);
-      comma = grind (arith, N.take_more_set, N.RowTexts.after_some_column);
-      ran = rw there (known_ran (λ walk. rest_more l.rest.now l.cells written.used l.made written.made end _ format new (N.slice_set new end 44) N.false
-          l.invariant.within l.invariant.rest left.0 all l.invariant.some c.row-formats.ensures.row (sym (N.ne_eqb _ _ (λ e. omega arith))) format_is
-          (grind arith)
-          l.invariant.comma c.write_far_cell.ensures.kept
-          (omega (arith, room), search (arith, rules)) (same ∙ sym (N.append-nil (take end new)))
-          c.in-Some.ensures.cell.0.whole c.in-Some.ensures.cell.1 (ran_at l.invariant.ran walk)));
+      at = record {
+        within = omega arith;
+        rest_is = grind arith;
+        some = few;
+        begun = omega (arith, comma_one l.cells);
+        comma = grind (arith, N.take_more_set, N.RowTexts.after_some_column);
+        ran = rw there (with_cell (goal.at.loop-rest-preserved-then-cells-formats-2 c).In-Some end (N.slice_set new end 44)
+            (search (arith, rules)) (rw (last, N.append-nil) same));
+      };
     }
+
+-- that of a row's last cell, after the end of its line
+with_line : (c : In-Some) (end : ℕ) (final : List ℕ) → c.loop-rest.cells + 1 ≡ c.args.self.now.count → end ≤ length final
+    → take end final ≡ take ((c.loop-rest.made + c.in-Some.written.made + 1) - 1)
+    (N.slice_set c.write_far_cell.new.to (c.loop-rest.made + c.in-Some.written.made) 44) ++ N.end_after true
+    → N.KnownRan c.args.self.now c.args.column c.args.bytes.now final (record {
+      used = length c.args.bytes.now - length (unused c.in-Some.written.used c.loop-rest.rest.now);
+      made = end;
+      rows = c.loop-rest.rows;
+      column = c.loop-rest.cells + 1;
+    })
+with_line c end final last fits is =
+    let at = c.loop-rest.made + c.in-Some.written.made in
+    let before : (at + 1) - 1 ≡ at = omega arith in
+    with_cell c end final fits (rw (N.eq-eqb _ _ last, ← take-set-le at c.write_far_cell.new.to at 44 (omega arith)) (rw before at is))
 
 pub returns-then-not-row_follows-clause-rows : goal.returns-then-not-row_follows-clause-rows
 returns-then-not-row_follows-clause-rows c =
-    let l = c.loop-rest in
-    let row_format = c.args.self.now in
-    let all = c.requires.all in
-    let formats = c.row-formats.result.now in
-    let row = row_length row_format formats all c.row-formats.ensures.row in
-    let written = c.in-Some.written in
-    let new = c.write_far_cell.new.to in
+    let row = row_length c.args.self.now c.row-formats.result.now c.requires.all c.row-formats.ensures.row in
     let end = c.write_line_end-made in
-    let format = c.index-formats-cells.result in
-    let format_is : format ≡ get_or formats l.cells format = search (arith, rules) in
-    let last : l.cells + 1 ≡ row_format.count = omega arith in
-    let fits : end.result ≤ length end.new.to = search (arith, rules) in
-    let bytes = c.args.bytes.now in
-    let left = left_after bytes l.rest.now written.used l.invariant.within l.invariant.rest (omega (arith, c.in-Some.ensures.cell.0.used)) in
-    let at = l.made + written.made in
-    let before : (at + 1) - 1 ≡ at = omega arith in
-    let text = rw before at end.ensures.text ∙ ap (λ (t : List ℕ). t ++ N.end_after true) (take-set-le at new at 44 (omega arith)) in
-    rw c.ended.ensures (known_ran (λ walk. rest_more l.rest.now l.cells written.used l.made written.made end.result _ format new end.new.to true
-    l.invariant.within l.invariant.rest left.0 all l.invariant.some c.row-formats.ensures.row (sym (N.eq-eqb _ _ last)) format_is
-    (grind arith)
-    l.invariant.comma c.write_far_cell.ensures.kept (omega (arith, c.in-Some.ensures.cell.0.made), fits) text
-    c.in-Some.ensures.cell.0.whole c.in-Some.ensures.cell.1 (ran_at l.invariant.ran walk)))
+    rw c.ended.ensures (with_line (goal.at.returns-then-not-row_follows-clause-rows c).In-Some end.result end.new.to (omega arith) (search (arith, rules))
+    end.ensures.text)
 
 pub loop-rest-preserved : goal.loop-rest-preserved
 loop-rest-preserved c =
     let l = c.loop-rest in
     let row_format = c.args.self.now in
-    let all = c.requires.all in
-    let formats = c.row-formats.result.now in
-    let row = row_length row_format formats all c.row-formats.ensures.row in
-    let written = c.in-Some.written in
-    let new = c.write_far_cell.new.to in
-    let end = c.write_line_end-made in
-    let format = c.index-formats-cells.result in
-    let format_is : format ≡ get_or formats l.cells format = search (arith, rules) in
-    let size : length new ≡ length l.to = search (arith, rules) in
+    let row = row_length row_format c.row-formats.result.now c.requires.all c.row-formats.ensures.row in
     let last : l.cells + 1 ≡ row_format.count = omega arith in
-    let fits : end.result ≤ length end.new.to = search (arith, rules) in
-    let bytes = c.args.bytes.now in
-    let left = left_after bytes l.rest.now written.used l.invariant.within l.invariant.rest (omega (arith, c.in-Some.ensures.cell.0.used)) in
-    let at = l.made + written.made in
-    let before : (at + 1) - 1 ≡ at = omega arith in
-    let text = rw before at end.ensures.text ∙ ap (λ (t : List ℕ). t ++ N.end_after true) (take-set-le at new at 44 (omega arith)) in
+    let end = c.write_line_end-made in
+    let rest = unused c.in-Some.written.used l.rest.now in
     let none : end.result - comma_size 0 ≡ end.result = omega arith in
-    let next = left_after bytes (unused written.used l.rest.now) 1 (omega arith) (grind arith)
-    (grind (arith, begins_some)) in
+    let left = left_of (goal.at.loop-rest-preserved c).In-Some in
+    let next = left_after c.args.bytes.now rest 1 (omega arith) (grind arith) (grind (arith, begins_some)) in
     record {
-      within = omega arith;
-      rest = grind arith;
       size = search (arith, rules);
-      some = c.requires.some;
-      begun = omega arith;
-      comma = grind (arith, N.append-nil);
-      ran = rw (none, next.0, left.0) (known_ran (λ walk. row_begun {start = place walk 0} c.requires.some (omega (arith, last))
-          (grind (arith, begins_in))
-          (grind (arith, place_known))
-          (rest_more l.rest.now l.cells written.used l.made written.made end.result _ format new end.new.to true
-          l.invariant.within l.invariant.rest N.refl all l.invariant.some c.row-formats.ensures.row (sym (N.eq-eqb _ _ last)) format_is
-          (grind arith)
-          l.invariant.comma c.write_far_cell.ensures.kept (omega (arith, c.in-Some.ensures.cell.0.made), fits) text
-          c.in-Some.ensures.cell.0.whole c.in-Some.ensures.cell.1 (ran_at l.invariant.ran walk))));
+      at = record {
+        within = omega arith;
+        rest_is = grind arith;
+        some = c.requires.some;
+        begun = omega arith;
+        comma = grind (arith, N.append-nil);
+        ran = rw (none, next.0) (known_ran (λ walk. row_begun {start = place walk 0} c.requires.some (omega (arith, last))
+            (grind (arith, begins_in)) (grind (arith, place_known))
+            (ran_at (with_line (goal.at.loop-rest-preserved c).In-Some end.result end.new.to last (search (arith, rules)) end.ensures.text) walk)));
+      };
     }
 
 pub returns-clause-rows : goal.returns-clause-rows
 returns-clause-rows c =
     let l = c.loop-rest in
     rw (c.ended-2.ensures, c.comma_size.ensures) (known_ran (λ walk. elim c.loop-rest-test.branch [
-      | else-loop-rest-test w ↦ rw w.to-is (ran_at l.invariant.ran walk)
-      | then-loop-rest-test+else-made-most w ↦ rw w.to-is (ran_at l.invariant.ran walk)
+      | else-loop-rest-test w ↦ rw w.to-is (ran_at l.invariant.at.ran walk)
+      | then-loop-rest-test+else-made-most w ↦ rw w.to-is (ran_at l.invariant.at.ran walk)
       | cell_left w ↦ (let at = l.made - comma_size l.cells in let new = w.write_far_cell.new.to in
           rw w.to-is (rows_kept (search (arith, rules)) (sym (N.take-take at l.made new (omega arith)) ∙ ap (take at) w.write_far_cell.ensures.kept
-          ∙ N.take-take at l.made l.to (omega arith)) (ran_at l.invariant.ran walk)))
+          ∙ N.take-take at l.made l.to (omega arith)) (ran_at l.invariant.at.ran walk)))
     ]))
 
 pub returns-clause-ends : goal.returns-clause-ends
@@ -157,12 +153,12 @@ returns-clause-ends c =
     let formats = c.row-formats.result.now in
     let bytes = c.args.bytes.now in
     λ walk. rw (c.ended-2.ensures, c.comma_size.ensures) (elim c.loop-rest-test.branch [
-      | else-loop-rest-test w ↦ inl (omega (arith, w.loop-rest-test.false, l.invariant.within, N.length-drop (length bytes - length l.rest.now) bytes))
+      | else-loop-rest-test w ↦ inl (omega (arith, w.loop-rest-test.false, l.invariant.at.within, N.length-drop (length bytes - length l.rest.now) bytes))
       | then-loop-rest-test+else-made-most w ↦ inr (grind (arith, comma_most))
       | cell_left w ↦ inr (inr (λ columns column left knows ahead step.
           let format = w.index-formats-cells.result in
           let format_is : format ≡ get_or formats l.cells format = search (arith, rules) in
-          let rest = rest_ahead row_format (place walk l.cells) formats all c.row-formats.ensures.row l.invariant.some in
+          let rest = rest_ahead row_format (place walk l.cells) formats all c.row-formats.ensures.row l.invariant.at.some in
           let less : length c.args.to.now - (l.made - comma_size l.cells) ≤ length l.to - l.made + 1 =
           grind arith in
           first_left row_format (place walk l.cells) row_format.count (drop l.cells formats) (omega arith) rest.0

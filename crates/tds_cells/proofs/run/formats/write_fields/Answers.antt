@@ -23,8 +23,8 @@ loop-cells-preserved c =
       rest = grind arith;
       at = fields_step written.used written.made format l.invariant.at left.0 (search (arith, rules)) c.loop-cells-test.true (search (arith, rules))
           (search (arith, rules)) whole;
-      writes = fields_more c.args.charset formats c.args.column bytes l.to c.write_cell.new.to _ l.cells _ written.used _ l.made
-          written.made format left.0 l.invariant.at.fits (search (arith, rules)) c.loop-cells-test.true wrote l.invariant.writes;
+      writes = fields_more l.to c.write_cell.new.to _ l.cells _ written.used _ l.made written.made format left.0 l.invariant.at.fits
+          (search (arith, rules)) c.loop-cells-test.true wrote l.invariant.writes;
     }
 
 pub returns-clause-ends : goal.returns-clause-ends

@@ -1,7 +1,7 @@
 use Rattle.tds_cells.proofs as N
 use N.run.formats.write_numbers.Goals as goal
 use N.{◌≡◌, ◌∙◌, ◌+◌, ◌-◌, ◌≤◌, [], ℕ, length, length-drop, drop, get_or, refl, arith, rules}
-use N.FormatSteps.{fields_end, fields_more, set_beyond}
+use N.FormatSteps.{fields_end, fields_more}
 use borrow.Rule.Slice.PartMut.{put_mid}
 use Rattle.tds_values.specs.declared.charset.Charset.TheVariants.{Windows1252}
 
@@ -17,7 +17,7 @@ loop-cells-init g c =
       at = search (arith, rules);
       whole = omega arith;
       fits = omega arith;
-      writes = grind arith;
+      writes = grind (arith, N.append-nil);
     }
 
 pub loop-cells-preserved : goal.loop-cells-preserved
@@ -49,10 +49,9 @@ loop-cells-preserved g c =
           (omega (arith, c.in-Some.ensures.most.1, l.invariant.fits, l.invariant.begun, left)) whole);
       whole = grind arith;
       fits = N.FormatSteps.room_step _ _ _ _ _ _ (search (arith, rules)) left c.in-Some.ensures.most.1 l.invariant.fits;
-      writes = λ charset. rw (more, set_beyond at l.made written.made l.to _ l.invariant.begun within) (fields_more charset formats 0 bytes (drop at l.to) new _
-          l.cells _ written.used _ _ written.made format further (grind (arith, length-drop))
+      writes = λ charset. fields_more l.to new _ l.cells _ written.used _ l.made written.made format further within
           (omega (arith, c.in-Some.ensures.most.1, size, l.invariant.fits, left)) left (rw format_is at (rw rest at (c.in-Some.ensures.cell charset).1))
-          (l.invariant.writes charset));
+          (l.invariant.writes charset);
     }
 
 pub returns-in_default-clause-ends : goal.returns-in_default-clause-ends
@@ -73,14 +72,13 @@ returns-in_default-clause-ends g c = λ few format.
 pub returns-in_default-clause-fields : goal.returns-in_default-clause-fields
 returns-in_default-clause-fields g c = λ charset.
     let l = c.loop-cells in
-    let at = c.args.from.made in
-    let new = c.write_int4_cell.new.to in
-    let mid = put_mid l.made (length l.to - l.made) l.to new in
+    let mid = put_mid l.made (length l.to - l.made) l.to c.write_int4_cell.new.to in
     let same : length mid ≡ length l.to = grind arith in
-    fields_end (drop at l.to) (drop at mid) (grind (arith, length-drop)) (omega (arith, same, length-drop at mid, length-drop at l.to))
-    (grind (arith, N.FormatSteps.same_beyond, N.RunSteps.made_same)) (l.invariant.writes charset)
+    let within : l.made ≤ length l.to = omega arith in
+    fields_end c.args.from.made l.made c.args.to.now l.to mid (rw same l.invariant.at) (omega arith, omega arith) (N.RunSteps.made_same l.made l.to _ within)
+    (l.invariant.writes charset)
 
 pub returns-after-loop-cells-clause-fields : goal.returns-after-loop-cells-clause-fields
 returns-after-loop-cells-clause-fields g c = λ charset.
-    let to = drop c.args.from.made c.loop-cells.to in
-    fields_end to to (grind (arith, length-drop)) refl refl (c.loop-cells.invariant.writes charset)
+    let l = c.loop-cells in
+    fields_end c.args.from.made l.made c.args.to.now l.to l.to l.invariant.at (omega arith, omega arith) refl (l.invariant.writes charset)
