@@ -77,7 +77,7 @@ far_more {row_format} {bytes = bytes} {rest = rest} {cells} {made} u m end d new
     rw now_is (known_ran (λ walk. rows_more u end _ final (omega (arith, whole, whole_some d.kind rest)) (rw left few) fits text
     (λ columns knows ahead.
     let next = next_known row_format columns (place walk cells) d.kind knows ahead d some known row_format.there kind_is in
-    let after = place_known row_format (place walk cells) cells (cells + 1) all (omega (arith, some)) (omega (arith, some)) columns knows ahead in
+    let after = place_known row_format (place walk cells) cells (cells + 1) all (omega (arith, some)) columns knows ahead in
     let taken = takes next N.refl after in
     let last = last_one columns (drop (cells + 1) columns) taken.column cells row_format.count knows.counted taken.next in
     rw left (runs_column taken last N.refl (wrote cells _).whole)) (ran_at at.ran walk)))

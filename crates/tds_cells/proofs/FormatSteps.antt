@@ -246,13 +246,9 @@ shape_less (N.FixedShape n) _ less left = left
 
 pub left_less : (charset : Charset) (kind : N.Kind) (bytes : List ℕ) {fewer room : ℕ} → fewer ≤ room → N.IsLeft charset kind bytes room
     → N.IsLeft charset kind bytes fewer
-left_less charset kind bytes less left = elim left [
-  | inl scalar ↦ inl scalar
-  | inr long ↦ inr (grind (arith, shape_less))
-]
+left_less _ _ _ less left = grind (arith, shape_less)
 
 -- the first cell is left with less room, too
 pub first_less : (charset : Charset) (formats : List CellFormat) (bytes : List ℕ) {fewer room : ℕ} → fewer ≤ room → N.FirstLeft charset formats bytes room
     → N.FirstLeft charset formats bytes fewer
-first_less charset _ bytes less x format rest are =
-    elim (x format rest are) [ inl few ↦ inl (omega arith) | inr left ↦ inr (grind (arith, left_less)) ]
+first_less _ _ _ less x format rest are = let y = x format rest are in grind (arith, left_less)

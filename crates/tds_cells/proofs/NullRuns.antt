@@ -1,6 +1,8 @@
 -- NULLs by their bits, in columns after one another.
 use Rattle.tds_cells.proofs as N
-use N.{◌≡◌, ◌∙◌, ◌==◌, ℕ, ◌+◌, ◌*◌, ◌-◌, ◌≤◌, ◌<◌, Bool, List, [], ◌++◌, zero, suc, length, take, refl, ap, arith, Column}
+use N.{◌≡◌, ◌∙◌, ◌==◌, ℕ, ◌+◌, ◌*◌, ◌-◌, ◌≤◌, ◌<◌, Bool, List, [], ◌++◌, zero, suc, length, take, refl, arith, Column}
+use Rattle.std.proofs.Common.{add-suc}
+use Rattle.std.proofs.lemmas.Bool.Decides.{nat_tests}
 
 -- a column that is NULL by its bit
 null_column : (charset : N.Charset) (columns : List Column) (nulls : ℕ → Bool) (k : ℕ) → k < length columns → nulls k ≡ N.true
@@ -19,29 +21,22 @@ nulls_text (suc n) = nulls_text n ++ N.in_line 1 N.false N.null_field
 
 nulls_length : (n : ℕ) → length (nulls_text n) ≡ 5 * n
 nulls_length zero = refl
-nulls_length (suc n) = omega (arith, nulls_length n, N.length-append (nulls_text n) (N.in_line 1 N.false N.null_field))
+nulls_length (suc n) = grind (arith, nulls_length n, N.length-append)
 
 nulls_both : (n m : ℕ) → nulls_text (n + m) ≡ nulls_text n ++ nulls_text m
-nulls_both n zero = rw N.add-zero (N.sym (N.append-nil (nulls_text n)))
-nulls_both n (suc m) =
-    let at : n + suc m ≡ suc (n + m) = omega arith in
-    rw at (ap (λ l. l ++ N.in_line 1 N.false N.null_field) (nulls_both n m) ∙ N.append_assoc (nulls_text n) (nulls_text m) _)
+nulls_both n zero = rw (N.add-zero, N.append-nil)
+nulls_both n (suc m) = rw (add-suc, nulls_both n m, N.append_assoc)
 
 -- of eight the first ones
 pub first_nulls : (n : ℕ) (rest : List ℕ) → n ≤ 8 → take (5 * n) (nulls_text 8 ++ rest) ≡ nulls_text n
 first_nulls n rest few =
-    let all : 8 ≡ n + (8 - n) = omega arith in
-    let more = nulls_text (8 - n) ++ rest in
-    let text : nulls_text 8 ++ rest ≡ nulls_text n ++ more =
-    ap (λ k. nulls_text k ++ rest) all ∙ ap (λ l. l ++ rest) (nulls_both n (8 - n)) ∙ N.append_assoc (nulls_text n) (nulls_text (8 - n)) rest in
-    ap (take (5 * n)) text ∙ ap (λ k. take k (nulls_text n ++ more)) (N.sym (nulls_length n)) ∙ N.take-append_seam (nulls_text n) more
+    let all : n + (8 - n) ≡ 8 = omega arith in
+    let text : nulls_text 8 ++ rest ≡ nulls_text n ++ (nulls_text (8 - n) ++ rest) = rw (← N.append_assoc, ← nulls_both, all) in
+    rw (text, ← nulls_length n) (N.take-append_seam (nulls_text n) _)
 
 -- the text of NULL neither first nor last in its row
 inner_null : (k n : ℕ) → 0 < k → k + 1 < n → N.in_line k (k + 1 == n) N.null_field ≡ N.in_line 1 N.false N.null_field
-inner_null k n some within =
-    let first : (k == 0) ≡ N.false = N.ne_eqb k 0 (λ e. omega arith) in
-    let last : (k + 1 == n) ≡ N.false = N.ne_eqb (k + 1) n (λ e. omega arith) in
-    rw (first, last) refl
+inner_null _ _ some within = grind (arith, nat_tests)
 
 -- columns that are NULL by their bit, after the first and before the last
 pub nulls_inside : (nulls : ℕ → Bool) (from n count : ℕ) → 0 < from → from + n < count → N.BitsAre N.true nulls from (from + n)

@@ -1,7 +1,7 @@
 -- Runs of cells over the columns that a row format knows: more cells after those that were written.
 use Rattle.tds_cells.proofs as N
 use N.{arith, false, ◌∷◌, ◌≡◌, ◌∙◌, ap, ℕ, ◌+◌, ◌-◌, ◌<◌, ◌≤◌, List, ◌++◌, length, take, drop, Column, Cursor, Ran, Unmarked, RowFormat, suc, Bool, sym}
-use N.{RunsMarked, inl, ◌⊎◌, ◌==◌, ◌≢◌, CellFormat, IsCursor, Knows, inr, true, []}
+use N.{KnownRan, RunsMarked, inl, ◌⊎◌, ◌==◌, ◌≢◌, CellFormat, IsCursor, Knows, inr, true, [], refl}
 use N.RunSteps.{made_more, marked_writes, rows_both, rows_none, rows_onward, used_more, unused}
 use N.FormatSteps.{some_first}
 use N.RowFormatSteps.{TakesColumn}
@@ -68,31 +68,6 @@ rows_more {from = from} {bytes = bytes} {run = run} u _ _ _ _ within fits is giv
 pub marked_in_rows : {row_format : RowFormat} {columns : List Column} {from to : Cursor} {bytes text : List ℕ}
     → RunsMarked row_format columns (λ k. false) from to bytes text → RowsBetween row_format columns from to 0 bytes text
 marked_in_rows y = (y.ahead, λ charset cells set is. rw y.further (marked_writes _ y.count _ _ (rows_none is) (rw set at y.writes)))
-
--- what stands after what was made may be another
-pub rows_kept : {row_format : RowFormat} {from at : Cursor} {bytes to : List ℕ} {run : N.RowsSpan} {new : List ℕ} → length new ≡ length to
-    → take run.made new ≡ take run.made to → Ran row_format Unmarked from at bytes to run → Ran row_format Unmarked from at bytes new run
-rows_kept same is x = grind arith
-
--- a run, and then another from where it ended
-pub rows_further : {row_format : RowFormat} {from at new : Cursor} {bytes to : List ℕ} {run more : N.RowsSpan} (text rest : List ℕ)
-    → Ran row_format Unmarked from at bytes to run → Ran row_format Unmarked at new (unused run.used bytes) text more
-    → Ran row_format Unmarked from new bytes (take run.made to ++ (text ++ rest))
-    (record { used = run.used + more.used; made = run.made + more.made; rows = run.rows + more.rows })
-rows_further {bytes = bytes} {to = to} {run = run} {more = more} text rest x y = record {
-  used = grind (arith, N.length-take);
-  made = grind (arith, N.length-append, N.length-take-le);
-  few = omega arith;
-  writes = λ columns knows begun.
-      let (ahead, first) = x.writes columns knows begun in
-      let (there, then_more) = y.writes columns knows ahead in (
-        there,
-        λ charset cells set counted.
-            let w = first charset cells set counted in
-            rw (used_more run.used more.used bytes, made_more run.made more.made to text rest x.made y.made)
-            (rows_both w (then_more charset w.more set w.counted)),
-      );
-}
 
 -- ---- the cells of an NBCROW
 
@@ -162,8 +137,7 @@ module _ {row_format : RowFormat} {columns : List Column} {nulls : ℕ → Bool}
 pub ends_clear : (row_format : RowFormat) (nulls : ℕ → Bool) (at : Cursor) (bytes : List ℕ) (room : ℕ) → nulls at.column ≡ false
     → N.EndsLeft row_format (λ k. false) at bytes room
     → N.EndsLeft row_format nulls at bytes room
-ends_clear _ _ at bytes room clear x =
-    λ columns column left knows ahead next. elim (x columns column left knows ahead next) [ inl few ↦ inl few | inr y ↦ inr (clear, y.1) ]
+ends_clear _ _ at bytes room clear x columns column left knows ahead next = let y = x columns column left knows ahead next in grind arith
 
 -- ---- the formats of the next columns
 
@@ -243,14 +217,10 @@ module _ (row_format : RowFormat) (from : Cursor) (end : ℕ) (formats : List Ce
 -- ---- rows that are far from the ends
 
 -- two places of a row, all of whose columns the row format knows, are ahead alike
-pub place_known : (row_format : RowFormat) (from : Cursor) (a b : ℕ) → row_format.known ≡ row_format.count → a ≤ row_format.count → b ≤ row_format.count
+pub place_known : (row_format : RowFormat) (from : Cursor) (a b : ℕ) → row_format.known ≡ row_format.count → b ≤ row_format.count
     → (columns : List Column) → Knows row_format columns → IsCursor row_format columns (record from { column = a })
     → IsCursor row_format columns (record from { column = b })
-place_known row_format from a b all within few columns knows is = record {
-  counted = omega arith;
-  within = λ _. is.within (omega arith);
-  beyond = grind arith;
-}
+place_known _ _ _ _ all few columns knows is = record { counted = omega arith; within = λ _. is.within (omega arith); beyond = grind arith }
 
 -- the formats of the rest of such a row
 pub rest_ahead : (row_format : RowFormat) (at : Cursor) (row : List CellFormat) → row_format.known ≡ row_format.count → row
@@ -264,36 +234,67 @@ rest_ahead row_format at row all are some =
     let counted = N.length-take-le n (drop at.column row_format.formats.now) (omega
     (arith, N.length-drop at.column row_format.formats.now, row_format.there)) in (grind (arith, known_ahead))
 
--- a whole row more, whose place is counted from the front of all
-pub row_far : {from : Cursor} {bytes to : List ℕ} {rows used made : ℕ} (row_format : RowFormat) (row : List CellFormat) (run : N.FormatsRun) (new : List ℕ)
-    → row_format.known ≡ row_format.count → 0 < row_format.count → row ≡ take row_format.known row_format.formats.now → run.cells ≡ row_format.count
-    → take made new ≡ take made to → length new ≡ length to → (used ≤ run.used) × (made ≤ run.made)
-    → N.RunsFormats row_format.charset row 0 true (drop used bytes) (length to - made) (drop made new) (N.run_since (record { used = used; made = made }) run)
-    → Ran row_format Unmarked from (record from { column = 0 }) bytes to (record { used = used; made = made; rows = rows })
-    → Ran row_format Unmarked from (record from { column = row_format.count }) bytes new (record { used = run.used; made = run.made; rows = rows })
-row_far {from} {bytes = bytes} {used = u} {made = m} row_format row run new all some are whole same size begun written x =
-    let next = rest_ahead row_format (record from { column = 0 }) row all are some in
-    let used : run.used ≡ u + (run.used - u) = omega arith in
-    let end : m + (run.made - m) ≡ run.made = omega arith in
-    let text = N.take-add m (run.made - m) new in
-    rw used (rows_more (run.used - u) run.made (take (run.made - m) (drop m new)) new (written.within.some (omega arith))
-    (rw (N.all_after bytes u) written.within.used)
-    (omega (arith, written.within.made, N.length-drop m new)) (grind arith)
-    (rw (N.all_after bytes u) (grind (arith, formats_between, N.eq-eqb, place_known))) x)
-
-abbrev pub known_span : N.KnownRun → N.RowsSpan
+abbrev known_span : N.KnownRun → N.RowsSpan
 known_span run = record { used = run.used; made = run.made; rows = run.rows }
 
-pub ran_at : {row_format : RowFormat} {column : ℕ} {bytes text : List ℕ} {run : N.KnownRun} → N.KnownRan row_format column bytes text run
+pub ran_at : {row_format : RowFormat} {column : ℕ} {bytes text : List ℕ} {run : N.KnownRun} → KnownRan row_format column bytes text run
     → (walk : N.Walk) → Ran row_format Unmarked (N.place walk column) (N.place walk run.column) bytes text (known_span run)
 ran_at x walk = record { used = x.used; made = x.made; few = x.few; writes = x.writes walk }
 
 pub known_ran : {row_format : RowFormat} {column : ℕ} {bytes text : List ℕ} {run : N.KnownRun}
     → ((walk : N.Walk) → Ran row_format Unmarked (N.place walk column) (N.place walk run.column) bytes text (known_span run))
-    → N.KnownRan row_format column bytes text run
-known_ran {row_format = row_format} x = record {
-  used = (x row_format.rest).used;
-  made = (x row_format.rest).made;
-  few = (x row_format.rest).few;
-  writes = λ walk. (x walk).writes;
+    → KnownRan row_format column bytes text run
+known_ran {row_format} x = let y = x row_format.rest in record { used = y.used; made = y.made; few = y.few; writes = λ walk. (x walk).writes }
+
+pub known_begin : {row_format : RowFormat} {column : ℕ} {bytes to : List ℕ}
+    → KnownRan row_format column bytes to (record { used = 0; made = 0; rows = 0; column = column })
+known_begin = known_ran (λ walk. rows_begin)
+
+-- one row more, after its token byte
+pub known_begun : {row_format : RowFormat} {column : ℕ} {bytes to : List ℕ} {run : N.KnownRun} → row_format.known ≡ row_format.count
+    → 0 < row_format.count → row_format.count ≤ run.column → N.BeginsRow (unused run.used bytes) → KnownRan row_format column bytes to run
+    → KnownRan row_format column bytes to (record { used = run.used + 1; made = run.made; rows = run.rows + 1; column = 0 })
+known_begun {row_format} {run = run} all some end begins x = known_ran (λ walk. row_begun some end (begins, refl)
+    (place_known row_format (N.place walk run.column) run.column 0 all (omega arith)) (ran_at x walk))
+
+-- what stands after what was made may be another
+pub known_kept : {row_format : RowFormat} {column : ℕ} {bytes to new : List ℕ} {run : N.KnownRun} → length new ≡ length to
+    → take run.made new ≡ take run.made to → KnownRan row_format column bytes to run → KnownRan row_format column bytes new run
+known_kept same is x = grind arith
+
+-- a run, and then another from where it ended
+pub known_further : {row_format : RowFormat} {column : ℕ} {bytes to : List ℕ} {run more : N.KnownRun} (text rest : List ℕ)
+    → KnownRan row_format column bytes to run → KnownRan row_format run.column (unused run.used bytes) text more
+    → KnownRan row_format column bytes (take run.made to ++ (text ++ rest))
+    (record { used = run.used + more.used; made = run.made + more.made; rows = run.rows + more.rows; column = more.column })
+known_further {bytes = bytes} {to = to} {run = run} {more = more} text rest x y = record {
+  used = grind (arith, N.length-take);
+  made = grind (arith, N.length-append, N.length-take-le);
+  few = omega arith;
+  writes = λ walk columns knows begun.
+      let (ahead, first) = x.writes walk columns knows begun in
+      let (there, then_more) = y.writes walk columns knows ahead in (
+        there,
+        λ charset cells set counted.
+            let w = first charset cells set counted in
+            rw (used_more run.used more.used bytes, made_more run.made more.made to text rest x.made y.made)
+            (rows_both w (then_more charset w.more set w.counted)),
+      );
 }
+
+-- a whole row more, whose place is counted from the front of all
+pub row_far : {bytes to : List ℕ} {rows used made : ℕ} (row_format : RowFormat) (row : List CellFormat) (run : N.FormatsRun) (new : List ℕ)
+    → row_format.known ≡ row_format.count → 0 < row_format.count → row ≡ take row_format.known row_format.formats.now → run.cells ≡ row_format.count
+    → take made new ≡ take made to → length new ≡ length to → (used ≤ run.used) × (made ≤ run.made)
+    → N.RunsFormats row_format.charset row 0 true (drop used bytes) (length to - made) (drop made new) (N.run_since (record { used = used; made = made }) run)
+    → KnownRan row_format 0 bytes to (record { used = used; made = made; rows = rows; column = 0 })
+    → KnownRan row_format 0 bytes new (record { used = run.used; made = run.made; rows = rows; column = row_format.count })
+row_far {bytes = bytes} {used = u} {made = m} row_format row run new all some are whole same size begun written x =
+    let used : run.used ≡ u + (run.used - u) = omega arith in
+    let end : m + (run.made - m) ≡ run.made = omega arith in
+    let text = N.take-add m (run.made - m) new in
+    rw used (known_ran (λ walk.
+    let next = rest_ahead row_format (N.place walk 0) row all are some in
+    rows_more (run.used - u) run.made (take (run.made - m) (drop m new)) new (written.within.some (omega arith))
+    (rw (N.all_after bytes u) written.within.used) (omega (arith, written.within.made, N.length-drop m new)) (grind arith)
+    (rw (N.all_after bytes u) (grind (arith, formats_between, N.eq-eqb, place_known))) (ran_at x walk)))

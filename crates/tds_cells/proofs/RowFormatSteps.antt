@@ -30,11 +30,9 @@ pub known_kind : (formats : List CellFormat) (columns : List Column) (n k : ℕ)
     → map (λ f. f.kind) (take n formats) ≡ map (λ c. c.kind) (take n columns) → k < n → n ≤ length formats → k < length columns
     → (get_or formats k f).kind ≡ (get_or columns k c).kind
 known_kind formats columns n k f c first known some within =
-    let one : k < length _ = omega (arith, N.length-take n formats) in
-    ap (λ (f : CellFormat). f.kind) (sym (N.get_or-take n formats k f known)) ∙ sym (N.get_or-map _ _ k f f.kind one)
-    ∙ ap (λ l. get_or l k f.kind) first
-    ∙ N.get_or-map _ _ k c f.kind (omega (arith, N.length-take n columns))
-    ∙ ap (λ (c : Column). c.kind) (N.get_or-take n columns k c known)
+    let one = N.get_or-map (λ (f : CellFormat). f.kind) (take n formats) k f f.kind (grind (arith, N.length-take)) in
+    let other = N.get_or-map (λ (c : Column). c.kind) (take n columns) k c f.kind (grind (arith, N.length-take)) in
+    grind (arith, N.get_or-take)
 
 module _ (row_format : N.RowFormat) (columns : List Column) (at : Cursor) (kind : Kind) (knows : N.Knows row_format columns)
     (is : IsCursor row_format columns at) where

@@ -3,7 +3,7 @@ use N.row_format.RowFormat.run_fast.Goals as goal
 use N.{arith, ◌≡◌}
 
 pub returns-then-column-ne0-clause-rows : goal.returns-then-column-ne0-clause-rows
-returns-then-column-ne0-clause-rows g c = N.RowFormatRuns.known_ran (λ walk. rw c.none.ensures N.RowFormatRuns.rows_begin)
+returns-then-column-ne0-clause-rows g c = rw c.none.ensures N.RowFormatRuns.known_begin
 
 pub returns-then-self-clause-rows : goal.returns-then-self-clause-rows
 returns-then-self-clause-rows g c =

@@ -2,19 +2,17 @@ use Rattle.tds_cells.proofs as N
 use N.row_format.RowFormat.run_known.Goals as goal
 use N.RunSteps.{made_more}
 use N.{place, refl, arith, ◌≡◌, ◌∙◌, ◌+◌, ◌-◌, length}
-use N.RowFormatRuns.{known_ran, ran_at, first_left, formats_between, place_known, row_begun, rows_begin, rows_further, rows_kept, rows_more}
+use N.RowFormatRuns.{known_begin, known_begun, known_further, known_kept, known_ran, ran_at, first_left, formats_between, place_known, rows_more}
 use borrow.Rule.Slice.PartMut.{put_mid, same_len_mid}
 
 pub loop-formats-init : goal.loop-formats-init
-loop-formats-init g c = known_ran (λ walk. rows_begin)
+loop-formats-init g c = known_begin
 
 pub loop-formats-preserved-in_default : goal.loop-formats-preserved-in_default
 loop-formats-preserved-in_default g c =
     let fast = c.run_fast-fast in
     let end = c.in_default.ensures.end refl in
-    known_ran (λ walk. row_begun {start = place walk 0} c.requires.some end (grind arith)
-    (grind (arith, place_known))
-    (rows_further fast.new.to _ (ran_at c.loop-formats.invariant walk) (ran_at fast.ensures.rows walk)))
+    known_begun c.requires.all c.requires.some end (grind arith) (known_further fast.new.to _ c.loop-formats.invariant fast.ensures.rows)
 
 pub loop-formats-preserved : goal.loop-formats-preserved
 loop-formats-preserved g c =
@@ -27,7 +25,7 @@ loop-formats-preserved g c =
     (search arith) (search arith))
     (λ columns knows is. formats_between _ _ _ _ (omega arith) (c.in-Some.ensures.ahead walk) _ (N.sym (N.eq-eqb _ _ c.in-Some.ensures.whole)) _ knows is
     _ _ _ run.result refl (grind (arith, place_known)) run.ensures.run.cells)
-    (rows_further fast.new.to _ (ran_at c.loop-formats.invariant walk) (ran_at fast.ensures.rows walk)))
+    (ran_at (known_further fast.new.to _ c.loop-formats.invariant fast.ensures.rows) walk))
 
 pub returns-then-not-row_follows-clause-ends : goal.returns-then-not-row_follows-clause-ends
 returns-then-not-row_follows-clause-ends g c = λ walk columns column left knows ahead step. absurd (grind (arith, N.RowFormatSteps.none_next))
@@ -46,8 +44,7 @@ returns-then-run-eq0-clause-ends g c = λ walk columns column left knows ahead s
     rw room at (rw (N.all_after c.args.bytes.now _) at left)
 
 pub returns-then-not-row_follows-clause-rows : goal.returns-then-not-row_follows-clause-rows
-returns-then-not-row_follows-clause-rows g c = known_ran (λ walk. rows_further c.run_fast-fast.new.to _ (ran_at c.loop-formats.invariant walk)
-    (ran_at c.run_fast-fast.ensures.rows walk))
+returns-then-not-row_follows-clause-rows g c = known_further c.run_fast-fast.new.to _ c.loop-formats.invariant c.run_fast-fast.ensures.rows
 
 pub returns-then-run-eq0-clause-rows : goal.returns-then-run-eq0-clause-rows
 returns-then-run-eq0-clause-rows g c =
@@ -55,9 +52,8 @@ returns-then-run-eq0-clause-rows g c =
     let fast = c.run_fast-fast in
     let made = l.made + fast.result.made in
     let mid = put_mid l.made _ l.to fast.new.to in
-    known_ran (λ walk.
-    let ran = rows_further fast.new.to _ (ran_at l.invariant walk) (ran_at fast.ensures.rows walk) in
-    rows_kept (same_len_mid made _ mid _ (search arith)) (N.RunSteps.made_same made mid _ ran.made) ran)
+    let ran = known_further fast.new.to _ l.invariant fast.ensures.rows in
+    known_kept (same_len_mid made _ mid _ (search arith)) (N.RunSteps.made_same made mid _ ran.made) ran
 
 pub run_formats-run-requires : goal.run_formats-run-requires
 run_formats-run-requires g c = (c.in-Some.ensures.ahead c.args.self.now.rest).laid

@@ -6,12 +6,12 @@ use N.row_format.RowFormat.run_unchecked.Goals.{then-loop-rest-test+else-made-mo
 use N.row_format.RowFormat.run_unchecked.Goals.{then-loop-rest-test+then-made-most+in_default as cell_left}
 use N.FarRuns.{begins_in, begins_some, comma_made, comma_size, comma_most, comma_one, far_left, far_more, row_length}
 use N.FormatSteps.{left_after}
-use N.RowFormatRuns.{known_ran, ran_at, first_left, place_known, rest_ahead, row_begun, rows_begin, rows_kept}
+use N.RowFormatRuns.{known_begin, known_begun, known_kept, first_left, rest_ahead}
 use N.RunSteps.{unused}
 use Rattle.std.proofs.lemmas.List.{take-set-le}
 
 pub returns-then-cells-formats-clause-rows : goal.returns-then-cells-formats-clause-rows
-returns-then-cells-formats-clause-rows c = known_ran (λ walk. rw c.none.ensures rows_begin)
+returns-then-cells-formats-clause-rows c = rw c.none.ensures known_begin
 
 pub returns-then-cells-formats-clause-ends : goal.returns-then-cells-formats-clause-ends
 returns-then-cells-formats-clause-ends c =
@@ -35,7 +35,7 @@ loop-rest-init c =
         some = omega arith;
         begun = omega arith;
         comma = grind arith;
-        ran = rw (none, unused_none) (known_ran (λ walk. rows_begin));
+        ran = rw (none, unused_none) known_begin;
       };
     }
 
@@ -128,22 +128,21 @@ loop-rest-preserved c =
         some = c.requires.some;
         begun = omega arith;
         comma = grind (arith, N.append-nil);
-        ran = rw (none, next.0) (known_ran (λ walk. row_begun {start = place walk 0} c.requires.some (omega (arith, last))
-            (grind (arith, begins_in)) (grind (arith, place_known))
-            (ran_at (with_line (goal.at.loop-rest-preserved c).In-Some end.result end.new.to last (search (arith, rules)) end.ensures.text) walk)));
+        ran = rw (none, next.0) (known_begun c.requires.all c.requires.some (omega (arith, last)) (grind (arith, begins_in))
+            (with_line (goal.at.loop-rest-preserved c).In-Some end.result end.new.to last (search (arith, rules)) end.ensures.text));
       };
     }
 
 pub returns-clause-rows : goal.returns-clause-rows
 returns-clause-rows c =
     let l = c.loop-rest in
-    rw (c.ended-2.ensures, c.comma_size.ensures) (known_ran (λ walk. elim c.loop-rest-test.branch [
-      | else-loop-rest-test w ↦ rw w.to-is (ran_at l.invariant.at.ran walk)
-      | then-loop-rest-test+else-made-most w ↦ rw w.to-is (ran_at l.invariant.at.ran walk)
+    rw (c.ended-2.ensures, c.comma_size.ensures) (elim c.loop-rest-test.branch [
+      | else-loop-rest-test w ↦ rw w.to-is l.invariant.at.ran
+      | then-loop-rest-test+else-made-most w ↦ rw w.to-is l.invariant.at.ran
       | cell_left w ↦ (let at = l.made - comma_size l.cells in let new = w.write_far_cell.new.to in
-          rw w.to-is (rows_kept (search (arith, rules)) (sym (N.take-take at l.made new (omega arith)) ∙ ap (take at) w.write_far_cell.ensures.kept
-          ∙ N.take-take at l.made l.to (omega arith)) (ran_at l.invariant.at.ran walk)))
-    ]))
+          rw w.to-is (known_kept (search (arith, rules)) (sym (N.take-take at l.made new (omega arith)) ∙ ap (take at) w.write_far_cell.ensures.kept
+          ∙ N.take-take at l.made l.to (omega arith)) l.invariant.at.ran))
+    ])
 
 pub returns-clause-ends : goal.returns-clause-ends
 returns-clause-ends c =
