@@ -11,15 +11,6 @@ HasBytes s = Unit {0}
 pub unless_true : {b : N.Bool} (f : N.Fault) → b ≡ true → N.unless b f ≡ N.None
 unless_true f h = rw h
 
-is_known : {n : ℕ} → n < 2 ^ 64 - 2 → N.known_total n ≡ Some n
-is_known h = grind arith
-
-within_known : {t n : ℕ} → n ≤ t → N.within_total (Some t) n ≡ true
-within_known h = grind arith
-
-is_total_known : (t : ℕ) → N.is_total (Some t) t ≡ true
-is_total_known t = grind arith
-
 module _ (column : ℕ) where
   fixed_cell : {kind : Kind} {n : ℕ} (v : N.ScalarValue) {bytes : List ℕ} → 0 < n → length bytes ≡ n → N.read_of kind bytes ≡ Ok v
       → Spelt (cell column) (N.ScalarBytes kind n) bytes (WholeCell (N.ScalarCell v))
@@ -97,12 +88,6 @@ module _ (column : ℕ) where
       let more = rw a at (chunks_cell c total (d ++ x) xs s.1 (rw a w) (rw a t) (rw a f) s.4) in
       rw s.2 (Spelt-append _ _ s.0 _ s.1 _ one more)
 
-  total_cell : (c : Conversion) (total : List ℕ) → length total ≡ 8 → little total < 2 ^ 64 - 1
-      → (N.nat_le (2 ^ 64 - 2) (little total) || (little total % unit c == 0)) ≡ true
-      → Spelt (cell column) (Total c) total (N.ChunkLength c (N.known_total (little total)) [])
-  total_cell c total eight less even = Spelt-step _ _ _ _ (omega arith) eight
-      (unless_true _ even) (grind arith)
-
   chunked_cell : {c : Conversion} {d bytes : List ℕ} → is_fit c d ≡ true → N.SpellsChunked d bytes
       → Spelt (cell column) (Total c) bytes (WholeCell (DataCell c d))
   chunked_cell {c} {d} f s = rw s.spelt (go s.known)
@@ -112,14 +97,14 @@ module _ (column : ℕ) where
           → N.is_total t (length d) ≡ true → Spelt (cell column) (Total c) (s.total ++ s.rest) (WholeCell (DataCell c d))
       from t known less even within whole =
           let more = rw s.all at (chunks_cell c t [] s.chunks s.rest (rw s.all within) (rw s.all whole) (rw s.all f) s.each) in
-          Spelt-append _ _ s.total _ s.rest _ (grind (arith, total_cell)) more
+          Spelt-append _ _ s.total _ s.rest _ (Spelt-step _ _ s.total _ (omega (arith, s.eight)) s.eight (unless_true _ even) (grind arith)) more
 
       go : (little s.total ≡ 2 ^ 64 - 2) ⊎ ((little s.total ≡ length d) × (length d < 2 ^ 64 - 2))
           → Spelt (cell column) (Total c) (s.total ++ s.rest) (WholeCell (DataCell c d))
       go (N.inl u) = from N.None (ap N.known_total u) (omega arith) (rw u) (λ n h. refl) refl
       go (N.inr k) =
           let even = ap (λ n. n % unit c == 0) k.0 ∙ ap (λ n. n == 0) (N.fit_units c d f) in
-          from _ (ap N.known_total k.0 ∙ is_known k.1) (omega arith) (N.or_right _ _ even) (λ _ k. within_known k) (is_total_known _)
+          from (Some (length d)) (grind arith) (omega arith) (N.or_right _ _ even) (λ n few. grind arith) (grind arith)
 
   -- What spells a cell is read as that cell.
   pub cell_is_read : (kind : Kind) (sh : N.Shape) (x : N.Cell) (bytes : List ℕ) → HasBytes sh → N.SpellsCell kind sh x bytes

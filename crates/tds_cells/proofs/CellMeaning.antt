@@ -25,7 +25,7 @@ more_chunks [] bytes d front h s = search N.rules
 more_chunks (x ∷ ds) _ d front h s = (
   h.0,
   h.1 ++ front,
-  ap (λ v. v ++ front) h.2 ∙ append_assoc h.0 h.1 front,
+  rw (h.2, append_assoc),
   h.3,
   more_chunks ds h.1 d front h.4 s,
 )
@@ -35,7 +35,7 @@ end_chunks [] bytes h = cc
 end_chunks (x ∷ ds) _ h = (
   h.0,
   h.1 ++ 0 ∷ 0 ∷ 0 ∷ 0 ∷ [],
-  ap (λ v. v ++ 0 ∷ 0 ∷ 0 ∷ 0 ∷ []) h.2 ∙ append_assoc h.0 h.1 _,
+  rw (h.2, append_assoc),
   h.3,
   end_chunks ds h.1 h.4,
 )
@@ -120,22 +120,21 @@ module _ (column : ℕ) (kind : Kind) where
       → CellMeans kind (LongShape c Chunked) (cell_add (N.ChunkData c total left d) (x ∷ [])) (b ++ x ∷ [])
   data_means c _ left d b x m =
       let la = N.length-append m.part (x ∷ []) in
-      let spelt = ap (λ v. v ++ x ∷ []) m.spelt ∙ append_assoc m.whole _ _ ∙ ap (λ v. m.whole ++ v) (append_assoc m.header m.part _) in
-      let all = ap (λ v. v ++ x ∷ []) m.all ∙ append_assoc m.before m.part _ in
+      let spelt : b ++ x ∷ [] ≡ m.whole ++ (m.header ++ (m.part ++ x ∷ [])) = rw (m.spelt, append_assoc, append_assoc) in
+      let all : d ++ x ∷ [] ≡ m.before ++ (m.part ++ x ∷ []) = rw (m.all, append_assoc) in
       N.choose (λ p. CellMeans kind (LongShape c Chunked) p (b ++ x ∷ [])) _ _ _ (λ z.
-      let one : N.SpellsChunk _ _ = grind arith in (
+      let one : N.SpellsChunk (m.part ++ x ∷ []) (m.header ++ (m.part ++ x ∷ [])) = grind arith in (
         refl,
         record {
           first = m.chunks.first;
-          chunks = m.chunks.chunks ++ _ ∷ [];
-          rest = m.chunks.rest ++ _;
-          spelt = spelt ∙ ap (λ v. v ++ (m.header ++ (m.part ++ x ∷ []))) m.chunks.spelt ∙ append_assoc m.chunks.first _ _;
+          chunks = m.chunks.chunks ++ (m.part ++ x ∷ []) ∷ [];
+          rest = m.chunks.rest ++ (m.header ++ (m.part ++ x ∷ []));
+          spelt = grind (arith, append_assoc);
           eight = cc;
           total_is = cc;
           below = omega arith;
           begun = more_chunks _ _ _ _ m.chunks.begun one;
-          all = N.concat-append m.chunks.chunks _ ∙ ap (λ v. v ++ N.concat ((m.part ++ x ∷ []) ∷ [])) m.chunks.all
-              ∙ ap (λ v. m.before ++ v) (N.append-nil _) ∙ N.sym all;
+          all = grind (arith, N.concat-append, append_assoc, N.append-nil);
         },
       )) (λ z. let some = N.eq_false left 0 z in (grind arith))
 

@@ -61,11 +61,7 @@ module _ (bytes : List ℕ) where
 
   -- the chunk's length, its data and the terminator
   parts : (n : ℕ) → take ((4 + n) + 4) (drop 8 bytes) ≡ (take 4 (drop 8 bytes) ++ chunk_data n bytes) ++ take 4 (drop (12 + n) bytes)
-  parts n =
-      let content = N.take-add 4 n (drop 8 bytes) ∙ ap (λ r. take 4 (drop 8 bytes) ++ take n r) (N.drop-drop 4 8 bytes) in
-      let end : drop (4 + n) (drop 8 bytes) ≡ drop (12 + n) bytes = N.drop-drop (4 + n) 8 bytes ∙ ap (λ (k : ℕ). drop k bytes) (omega arith) in
-      N.take-add (4 + n) 4 (drop 8 bytes) ∙ ap (λ r. r ++ take 4 (drop (4 + n) (drop 8 bytes))) content
-      ∙ ap (λ r. (take 4 (drop 8 bytes) ++ chunk_data n bytes) ++ take 4 r) end
+  parts _ = rw (N.take-add, N.take-add, N.drop-drop, N.drop-drop) (grind arith)
 
   one_chunk : (n : ℕ) → 0 < n → HasOneChunk bytes n → SpellsChunked (chunk_data n bytes) (take (16 + n) bytes)
   one_chunk n some x =
@@ -93,8 +89,8 @@ module _ (bytes : List ℕ) where
 
   after_total : (n most : ℕ) → HasOneChunk bytes n → 8 + N.chunks_size (suc (suc most)) (drop 8 bytes) ≡ N.chunk_end n
   after_total n most x = elim (cases_lt 0 n) [
-    | N.inl some ↦ ap (λ (k : ℕ). 8 + k) (after_one n most some x) ∙ grind arith
-    | N.inr none ↦ ap (λ (k : ℕ). 8 + k) (chunks_end (suc most) (drop 8 bytes) (sym x.counted ∙ omega (arith, none))) ∙ grind arith
+    | N.inl some ↦ (let one = after_one n most some x in grind arith)
+    | N.inr none ↦ (let end = chunks_end (suc most) (drop 8 bytes) in grind arith)
   ]
 
   pub one_chunk_size : (n : ℕ) → little_number 8 bytes ≢ 2 ^ 64 - 1 → HasOneChunk bytes n → N.chunk_end n ≡ N.long_size N.Chunked bytes

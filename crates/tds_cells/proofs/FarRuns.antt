@@ -25,9 +25,9 @@ pub comma_made : (made n : ℕ) (to : List ℕ) → made ≤ length to → take 
 comma_made _ _ _ within is = grind (arith, N.length-take-le, N.append-nil)
 
 -- a row has as many formats as there are columns
-pub row_length : (row_format : RowFormat) (row : List CellFormat) → row_format.known ≡ row_format.count → row
+pub row_length : {row : List CellFormat} (row_format : RowFormat) → row_format.known ≡ row_format.count → row
     ≡ take row_format.known row_format.formats.now → length row ≡ row_format.count
-row_length row_format row all are = ap length are ∙ N.length-take-le row_format.known row_format.formats.now (omega arith) ∙ all
+row_length row_format all are = ap length are ∙ N.length-take-le row_format.known row_format.formats.now (omega arith) ∙ all
 
 -- the next cell of a row is left
 pub far_left : (row_format : RowFormat) (row : List CellFormat) (cells : ℕ) (d : CellFormat) (bytes : List ℕ) (room more : ℕ) → d ≡ get_or row cells d

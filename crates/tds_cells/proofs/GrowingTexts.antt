@@ -1,90 +1,19 @@
--- What a text that grows is, and what the cells and rows that are read add to it.
+-- What the rows that are read add to their text.
 use Rattle.tds_cells.proofs as N
-use N.{◌≡◌, ℕ, Bool, true, List, [], ◌∷◌, ◌++◌, arith, Option, Some, None, ◌==◌, ◌||◌, joined, Cell, rules}
-
--- the second text begins with the first
-abbrev pub Grows : List ℕ → List ℕ → Type 0
-Grows a b = (more : List ℕ) × (a ++ more ≡ b)
-
-pub grows_same : (a : List ℕ) → Grows a a
-grows_same a = search rules
-
--- the empty text grows to any
-pub grows_all : (b : List ℕ) → Grows [] b
-grows_all b = (b, N.refl)
-
-pub grows_trans : (a b c : List ℕ) → Grows a b → Grows b c → Grows a c
-grows_trans a b c h k = grind (arith, N.append_assoc)
-
--- what stands in front stays
-pub grows_under : (x a b : List ℕ) → Grows a b → Grows (x ++ a) (x ++ b)
-grows_under x a b h = grind (arith, N.append_assoc)
-
-pub joined_more : (fs gs : List (List ℕ)) → Grows (joined fs) (joined (fs ++ gs))
-joined_more [] gs = grind arith
-joined_more (f ∷ []) [] = grows_same f
-joined_more (f ∷ []) (g ∷ gs) = (N.codes "," ++ joined (g ∷ gs), N.sym (N.append_assoc f _ _))
-joined_more (f ∷ h ∷ fs) gs = grows_under _ _ _ (joined_more (h ∷ fs) gs)
-
-joined_last : (fs : List (List ℕ)) (a b : List ℕ) → Grows a b → Grows (joined (fs ++ a ∷ [])) (joined (fs ++ b ∷ []))
-joined_last [] a b h = h
-joined_last (f ∷ []) a b h = grows_under _ a b h
-joined_last (f ∷ g ∷ fs) a b h = grows_under _ _ _ (joined_last (g ∷ fs) a b h)
-
--- the text of a field that may not be there yet
-abbrev pub OptionGrows : Option (List ℕ) → Option (List ℕ) → Type 0
-OptionGrows None b = Unit {0}
-OptionGrows (Some a) None = ⊥
-OptionGrows (Some a) (Some b) = Grows a b
-
--- more of the field that is read
-with_field_grows : (cells : List Cell) (a b : Option (List ℕ)) → OptionGrows a b → Grows (joined (N.with_field cells a)) (joined (N.with_field cells b))
-with_field_grows _ None None h = grows_same _
-with_field_grows _ None (Some b) h = grind (arith, joined_more)
-with_field_grows _ (Some a) None h = absurd h
-with_field_grows _ (Some a) (Some b) h = grind (arith, joined_last)
-
-open_more : (c : N.Conversion) (a b : List ℕ) → N.is_begun c (a ++ b) ≡ true → Grows (N.open_field c a) (N.open_field c (a ++ b))
-open_more c a b h = grind (arith, N.open_grows, N.begun_by_test)
-
-long_grows : (c : N.Conversion) (a : List ℕ) → N.is_fit c a ≡ true → Grows (N.open_field c a) (N.long_field c a)
-long_grows c a h = (N.conversion_text c _ ++ N.closing _, N.open_closes c a h)
-
--- the last byte of a short value leaves it fit
-pub last_fit : (left : ℕ) (b : Bool) → (N.nat_lt 0 left || b) ≡ true → (left == 0) ≡ true → b ≡ true
-last_fit _ b h z = grind arith
-
--- what ends the chunks leaves the data fit
-pub end_fit : (column : ℕ) (c : N.Conversion) (total : Option ℕ) (content e : List ℕ) → N.cell_fault column (N.ChunkLength c total content) e ≡ None
-    → (N.little e == 0) ≡ true → N.is_fit c content ≡ true
-end_fit _ c _ _ e h z = grind arith
-
-module _ (column : ℕ) where
-  -- each element of a cell adds to its text
-  pub cell_grows : (p : N.CellPart) (e : List ℕ) → N.IsNext (N.cell column) p e → OptionGrows (N.field_so_far p) (N.field_so_far (N.cell_add p e))
-  cell_grows p e n = grind (arith, N.common_steps, N.CellMeaning.unless_none, open_more, long_grows, last_fit)
+use N.{◌≡◌, ◌++◌, ℕ, List, length, arith}
+use N.RowTexts.{begun_text, ends, line_grows, part_text}
+pub use N.CellGrowth.{Grows, end_fit, grows_all, grows_same, grows_trans, grows_under, joined_more, last_fit}
 
 module _ (charset : N.Charset) where
-  -- the cells to come begin
-  next_grows : (cells : List Cell) (ks : List (N.Column × Bool)) → Grows (joined (N.map N.field cells)) (N.row_so_far (N.next_cell charset cells ks))
-  next_grows _ [] = grind arith
-  next_grows cells ((k, true) ∷ ks) = grows_trans _ _ _
-      (rw (N.sym (N.map-append N.field cells (N.Null ∷ []))) at (joined_more (N.map N.field cells) (N.null_field ∷ []))) (next_grows _ ks)
-  next_grows _ ((k, N.false) ∷ ks) = search rules
-
-  -- a cell in its row
-  with_cell_grows : (cells : List Cell) (ks : List (N.Column × Bool)) (p : N.CellPart)
-      → Grows (joined (N.with_field cells (N.field_so_far p))) (N.row_so_far (N.with_cell charset cells ks p))
-  with_cell_grows cells ks (N.WholeCell c) = rw N.map-append at (next_grows (cells ++ c ∷ []) ks)
-  with_cell_grows _ _ (N.ShortData c left content) = search rules
-  with_cell_grows _ _ (N.ChunkLength c total content) = search rules
-  with_cell_grows _ _ (N.ChunkData c total left content) = search rules
-  with_cell_grows _ _ p = search rules
-
   -- each element of a row adds to its text
   pub row_grows : (p : N.RowPart) (e : List ℕ) → N.IsNext (N.row charset) p e → Grows (N.row_so_far p) (N.row_so_far (N.row_add charset p e))
   row_grows (N.Bitmap columns) e n = grows_all _
   row_grows (N.WholeRow cells) e n = grows_same _
   row_grows (N.InCell cells part ks) e n =
-      grows_trans _ _ _ (with_field_grows _ _ _ (cell_grows _ part e (record { some = n.some; whole = n.whole; free = n.free })))
-      (with_cell_grows cells ks _)
+      let next : N.IsNext (N.cell (length cells)) part e = record { some = n.some; whole = n.whole; free = n.free } in
+      let some = N.next_some _ part e next in
+      let opened : N.with_cell charset cells ks part ≡ N.InCell cells part ks = grind arith in
+      let grown : Grows (N.joined (N.map N.field cells) ++ N.cell_so_far (length cells) (ends ks) part)
+      (N.row_so_far (N.row_add charset (N.InCell cells part ks) e)) =
+      grows_trans _ _ _ (grows_under _ _ _ (line_grows (length cells) (ends ks) part e next)) (_, part_text charset cells ks (N.cell_add part e)) in
+      rw (begun_text charset cells ks part some, opened) at grown

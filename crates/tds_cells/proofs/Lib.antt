@@ -5,6 +5,7 @@ pub mod CellMeaning
 pub mod RowMeaning
 pub mod RowTexts
 pub mod GrammarTexts
+pub mod CellGrowth
 pub mod GrowingTexts
 pub mod ValueCells
 pub mod LaidOut

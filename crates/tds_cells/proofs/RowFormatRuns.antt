@@ -204,10 +204,8 @@ module _ (row_format : RowFormat) (from : Cursor) (end : ℕ) (formats : List Ce
       let next = drop from.column columns in
       let there : drop k next ≡ column ∷ left = N.drop-drop k from.column columns ∙ step in
       let place : k ≡ k + 0 = omega arith in
-      let first : N.get_or formats k format ≡ format =
-      grind (arith, get_or-drop) in
-      let second : N.get_or next k column ≡ column =
-      grind (arith, get_or-drop) in
+      let first : N.get_or formats k format ≡ format = grind (arith, get_or-drop) in
+      let second : N.get_or next k column ≡ column = grind (arith, get_or-drop) in
       let kinds_are : N.map (λ f. f.kind) (take (length formats) formats) ≡ N.map (λ c. c.kind) (take (length formats) next) =
       grind (arith, N.take_all) in
       let further : k < length next = omega (arith, ap length there, N.length-drop k next) in

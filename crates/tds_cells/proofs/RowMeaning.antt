@@ -15,7 +15,7 @@ module _ (charset : N.Charset) where
   one_more_cell [] [] b k c e h s = search N.rules
   one_more_cell ((j, true) ∷ ks) (d ∷ cs) b k c e h s = (h.0, one_more_cell ks cs b k c e h.1 s)
   one_more_cell ((j, false) ∷ ks) (d ∷ cs) b k c e h s =
-      (h.0, h.1 ++ e, ap (λ v. v ++ e) h.2 ∙ N.append_assoc h.0 h.1 e, h.3, one_more_cell ks cs h.1 k c e h.4 s)
+      (h.0, h.1 ++ e, rw (h.2, N.append_assoc), h.3, one_more_cell ks cs h.1 k c e h.4 s)
   one_more_cell _ _ b k c e h s = absurd h
 
   -- the bytes spell the whole cells of the marked columns, and the part of the next one

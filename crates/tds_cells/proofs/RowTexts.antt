@@ -3,7 +3,7 @@ use Rattle.tds_cells.proofs as N
 use N.{◌≡◌, ◌∙◌, ℕ, ◌+◌, ◌-◌, ◌<◌, Bool, false, List, [], ◌∷◌, ◌++◌, length, sym, ap, arith, None, map, Column, joined, Charset, Cell, CellPart, WholeCell}
 use N.{cell, field, cell_so_far, true, Some, opened, ◌≢◌, refl}
 use N.GrammarTexts.{writes_inside}
-use N.GrowingTexts.{Grows, OptionGrows, cell_grows, grows_all, grows_same, grows_trans}
+use N.CellGrowth.{Grows, OptionGrows, cell_grows, grows_all, grows_same, grows_trans}
 
 -- ---- fields in their line
 

@@ -90,11 +90,9 @@ after_more : {bytes made : List ℕ} {v : Cell} (charset : Charset) (cells : Lis
     → Writes (N.cell (length cells)) (N.cell_so_far (length cells) (N.is_last_column left)) (cell_start c.kind (N.shape charset c.kind)) bytes made
     (N.WholeCell v)
     → Writes (row charset) row_so_far (after_cells charset cells (c ∷ left)) bytes made (after_cells charset (cells ++ v ∷ []) left)
-after_more {bytes = bytes} {made = made} {v = v} charset cells c left x =
+after_more {v = v} charset cells c left x =
     let n = length cells + 1 in
-    N.subst (λ (k : ℕ). Writes (row charset) row_so_far (after_cells charset cells (c ∷ left)) bytes made
-    (N.next_cell charset (cells ++ v ∷ []) (N.RowTexts.coming left k))) (sym (N.length-append cells _))
-    (N.RowTexts.row_cell _ _ _ c (N.RowTexts.none_ahead _ n) (grind arith))
+    rw (N.length-append cells (v ∷ [])) (N.RowTexts.row_cell _ _ _ c (N.RowTexts.none_ahead _ n) (grind arith))
 
 pub rows_none : {charset : Charset} {all : List Column} {cells : List Cell} {columns : List Column} {column : ℕ} → length cells ≡ column
     → WritesRows charset all cells columns columns column 0 [] []
@@ -109,16 +107,13 @@ pub record WritesCells (charset : Charset) (all : List Column) (cells : List Cel
 module _ {charset : Charset} {all : List Column} {cells : List Cell} {from : ℕ} where
   column_cells : {a b p q : List ℕ} (at : ℕ) → WritesCells charset all cells from at a p → N.WritesColumn charset all (λ k. false) at b q
       → WritesCells charset all cells from (at + 1) (a ++ b) (p ++ q)
-  column_cells {b = b} {q = q} at x w =
+  column_cells at x w =
       let z = rw (sym x.counted) at (w.cell refl) in
-      let one = after_more charset x.more w.column w.left (cell_writes w.column.kind _ z) in
-      let after = λ (l : List Column). after_cells charset (x.more ++ z.value ∷ []) l in
-      let next = N.subst (λ l. Writes (row charset) row_so_far (after_cells charset x.more (w.column ∷ w.left)) b q (after l))
-      (sym (N.RowFormatSteps.next_column all at w.next).1.1) one in
       record {
         more = x.more ++ z.value ∷ [];
         counted = omega (arith, N.length-append x.more (z.value ∷ []));
-        writes = writes_both (rw w.next at x.writes) next;
+        writes = writes_both (rw w.next at x.writes) (rw (N.RowFormatSteps.next_column all at w.next).1.1
+            (after_more charset x.more w.column w.left (cell_writes w.column.kind _ z)));
       }
 
   pub marked_cells : (n : ℕ) (b q : List ℕ) → length cells ≡ from → N.WritesMarked charset all (λ k. false) from n b q

@@ -29,19 +29,6 @@ emit_none c = grind (arith, hex-nil, text_nil)
 pub none_begins : (c : Conversion) → BeginsData c []
 none_begins c = grind arith
 
-mark_set : (to : List ℕ) → 2 ≤ length to → take 2 (N.slice_set (N.slice_set to 0 48) 1 120) ≡ binary_mark
-mark_set (a ∷ b ∷ to) _ = refl
-mark_set (a ∷ []) few = absurd (omega (arith, few))
-mark_set [] few = absurd (omega (arith, few))
-
-quote_set : (to : List ℕ) → 2 ≤ length to → take 1 (N.slice_set to 0 34) ≡ quote ∷ []
-quote_set (a ∷ to) _ = refl
-quote_set [] few = absurd (omega (arith, few))
-
-open_binary : (content : Content) → content ≡ Content.Binary → open_field (conversion_of content) [] ≡ binary_mark
-open_binary Content.Binary _ = ap (λ l. binary_mark ++ l) (emit_none HexDigits)
-open_binary _ is = absurd (grind arith)
-
 open_quoted : (c : Conversion) → is_quoted c ≡ N.true → open_field c [] ≡ quote ∷ []
 open_quoted HexDigits quoted = absurd (true≢false (sym quoted))
 open_quoted Utf16Text _ = ap (λ l. quote ∷ l) (emit_none Utf16Text)
@@ -51,11 +38,14 @@ open_quoted Utf8Text _ = ap (λ l. quote ∷ l) (emit_none Utf8Text)
 -- what comes before the text was written
 pub opens_binary : (content : Content) (to : List ℕ) → content ≡ Content.Binary → 2 ≤ length to
     → take 2 (N.slice_set (N.slice_set to 0 48) 1 120) ≡ open_field (conversion_of content) []
-opens_binary content to is room = mark_set to room ∙ sym (open_binary content is)
+opens_binary _ (a ∷ b ∷ to) is _ = rw is (ap (λ l. binary_mark ++ l) (sym (emit_none HexDigits)))
+opens_binary _ (a ∷ []) _ few = absurd (omega (arith, few))
+opens_binary _ [] _ few = absurd (omega (arith, few))
 
 pub opens_quoted : (content : Content) (to : List ℕ) → (content ≡ Content.Binary → ⊥) → 2 ≤ length to
     → take 1 (N.slice_set to 0 34) ≡ open_field (conversion_of content) []
-opens_quoted content to other room = quote_set to room ∙ sym (open_quoted (conversion_of content) (grind arith))
+opens_quoted content (a ∷ to) other _ = sym (open_quoted (conversion_of content) (grind arith))
+opens_quoted _ [] _ few = absurd (omega (arith, few))
 
 -- ---- chunk after chunk
 
@@ -76,9 +66,7 @@ pub record WroteChunks (c : Conversion) (bytes to : List ℕ) (at made sum : ℕ
 
 -- the bytes of the next one
 pub next_bytes : (bytes : List ℕ) (at n : ℕ) → take (at + (4 + n)) bytes ≡ take at bytes ++ (take 4 (drop at bytes) ++ take n (drop (at + 4) bytes))
-next_bytes bytes at n =
-    N.take-add at (4 + n) bytes ∙ ap (λ l. take at bytes ++ l) (N.take-add 4 n (drop at bytes)
-    ∙ ap (λ l. take 4 (drop at bytes) ++ take n l) (N.drop-drop 4 at bytes))
+next_bytes _ _ _ = rw (N.take-add, N.take-add, N.drop-drop)
 
 module _ (c : Conversion) (bytes : List ℕ) where
   -- before the first one
@@ -108,10 +96,7 @@ module _ (c : Conversion) (bytes : List ℕ) where
       let size : length part ≡ n = ap length part_is ∙ N.length-take-le n (drop (at + 4) bytes) (omega (arith, N.length-drop (at + 4) bytes)) in
       let joins = joins_by_name c in
       let begun = joins.outward x.content part (rw x.alone begins) in
-      let there = N.length-take-le made to room in
-      let tail : take (made + added) (take made to ++ (new ++ after)) ≡ take made to ++ take added new =
-      ap (λ k. take (k + added) (take made to ++ (new ++ after))) (sym there) ∙ N.take-append-add (take made to) (new ++ after) added
-      ∙ ap (λ l. take made to ++ l) (N.take-append-le added new after fits) in
+      let tail = N.RunSteps.made_more made added to new after room fits in
       let grows = rw x.alone at (N.open_grows c x.content part begun) in
       record {
         content = x.content ++ part;

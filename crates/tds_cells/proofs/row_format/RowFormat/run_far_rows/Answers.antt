@@ -18,8 +18,7 @@ loop-rest-preserved c =
           ∙ c.bitmap_size-size.ensures.value ∙ ap N.bitmap_length (c.count.ensures ∙ knows.counted) in
           N.NbcRuns.nbc_row_more l.whole.used c.bitmap_size-size.result c.args.bytes.now _ columns l.whole.rows run.used l.whole.made run.made l.to
           c.run_far_marked-run.new.to _
-          l.invariant.made (search arith) (search arith) (search arith) whole (l.invariant.rows columns knows)
-          (grind arith);
+          l.invariant.made (search arith) whole (l.invariant.rows columns knows) (grind arith) (search arith) (search arith);
     }
 
 pub returns-then-not-is_end-clause-ends : goal.returns-then-not-is_end-clause-ends

@@ -20,7 +20,7 @@ with_row g c =
     let row_format = c.args.self.now in
     let row = c.row-row.result.now in
     let done = c.in-Some-run_row.ensures in
-    let whole = done.row.0 ∙ row_length row_format row c.requires.all c.row-row.ensures.row in
+    let whole = done.row.0 ∙ row_length row_format c.requires.all c.row-row.ensures.row in
     row_far row_format row _ c.run_row.new.to c.requires.all c.requires.some c.row-row.ensures.row whole c.run_row.ensures.kept
     (search (arith, N.rules)) (done.within.0, done.within.2) (done.row.1 row_format.charset) c.loop-used.invariant.ran
 

@@ -16,13 +16,13 @@ returns-then-cells-formats-clause-rows c = rw c.none.ensures known_begin
 pub returns-then-cells-formats-clause-ends : goal.returns-then-cells-formats-clause-ends
 returns-then-cells-formats-clause-ends c =
     let row_format = c.args.self.now in
-    let row = row_length row_format c.row-formats.result.now c.requires.all c.row-formats.ensures.row in
+    let row = row_length row_format c.requires.all c.row-formats.ensures.row in
     λ walk. rw c.none.ensures (grind (arith, N.RowFormatSteps.none_next))
 
 pub loop-rest-init : goal.loop-rest-init
 loop-rest-init c =
     let row_format = c.args.self.now in
-    let row = row_length row_format c.row-formats.result.now c.requires.all c.row-formats.ensures.row in
+    let row = row_length row_format c.requires.all c.row-formats.ensures.row in
     let comma = c.write_comma-made in
     let made_is = comma_made comma.result c.args.column comma.new.to (search (arith, rules)) (comma.ensures.text []) in
     let none : comma.result - comma_size c.args.column ≡ 0 = omega arith in
@@ -63,7 +63,7 @@ pub loop-rest-preserved-then-cells-formats-2 : goal.loop-rest-preserved-then-cel
 loop-rest-preserved-then-cells-formats-2 c =
     let l = c.loop-rest in
     let row_format = c.args.self.now in
-    let row = row_length row_format c.row-formats.result.now c.requires.all c.row-formats.ensures.row in
+    let row = row_length row_format c.requires.all c.row-formats.ensures.row in
     let written = c.in-Some.written in
     let new = c.write_far_cell.new.to in
     let end = l.made + written.made in
@@ -104,7 +104,7 @@ with_line c end final last fits is =
 
 pub returns-then-not-row_follows-clause-rows : goal.returns-then-not-row_follows-clause-rows
 returns-then-not-row_follows-clause-rows c =
-    let row = row_length c.args.self.now c.row-formats.result.now c.requires.all c.row-formats.ensures.row in
+    let row = row_length c.args.self.now c.requires.all c.row-formats.ensures.row in
     let end = c.write_line_end-made in
     rw c.ended.ensures (with_line (goal.at.returns-then-not-row_follows-clause-rows c).In-Some end.result end.new.to (omega arith) (search (arith, rules))
     end.ensures.text)
@@ -113,7 +113,7 @@ pub loop-rest-preserved : goal.loop-rest-preserved
 loop-rest-preserved c =
     let l = c.loop-rest in
     let row_format = c.args.self.now in
-    let row = row_length row_format c.row-formats.result.now c.requires.all c.row-formats.ensures.row in
+    let row = row_length row_format c.requires.all c.row-formats.ensures.row in
     let last : l.cells + 1 ≡ row_format.count = omega arith in
     let end = c.write_line_end-made in
     let rest = unused c.in-Some.written.used l.rest.now in
