@@ -55,10 +55,9 @@ module _ (column : ℕ) where
       → Spelt (cell column) (N.ChunkData c total (length xs) d) (x ∷ xs) (N.ChunkLength c total (d ++ x ∷ xs))
   chunk_data c _ d x [] more h = Spelt-step _ _ _ _ (omega arith) refl (unless_true _ (N.fit_begins c _ _ h)) refl
   chunk_data c total d x (y ∷ ys) more h =
-      let k = ap (λ v. is_fit c (v ++ more)) (N.append_assoc d _ _) ∙ h in
-      let begun = N.fit_begins c _ _ (ap (is_fit c) (N.sym (N.append_assoc (d ++ x ∷ []) _ more)) ∙ k) in
+      let begun = N.fit_begins c (d ++ x ∷ []) ((y ∷ ys) ++ more) (rw (← N.append_assoc, N.append_assoc d) h) in
       Spelt-append _ _ _ _ _ _ (Spelt-step _ _ _ _ (omega arith) refl (unless_true _ begun) (search N.rules))
-      (rw N.append_assoc at (chunk_data c total (d ++ x ∷ []) y ys more k))
+      (rw N.append_assoc at (chunk_data c total (d ++ x ∷ []) y ys more (rw (N.append_assoc d) h)))
 
   chunk_cell : (c : Conversion) (total : Option ℕ) (d content bytes more : List ℕ) → is_fit c ((d ++ content) ++ more) ≡ true
       → N.within_total total (length d + length content) ≡ true → N.SpellsChunk content bytes

@@ -69,11 +69,12 @@ module _ (bytes : List ℕ) where
       let total = eight_at_front bytes (omega arith) in
       let d = chunk_data n bytes in
       let counted : length d ≡ n = grind (arith, N.length-take-le, N.length-drop) in
+      let size : 16 + n ≡ 8 + ((4 + n) + 4) = omega arith in
       record {
         total = take 8 bytes;
         rest = take 4 (drop 8 bytes) ++ d ++ take 4 (drop (12 + n) bytes);
         chunks = d ∷ [];
-        spelt = ap (λ k. take k bytes) (omega arith) ∙ N.take-add 8 ((4 + n) + 4) bytes ∙ ap (λ r. take 8 bytes ++ r) (parts n);
+        spelt = rw (size, N.take-add, parts);
         eight = total.0;
         known = grind arith;
         each = grind (arith, zeros_at);
@@ -84,8 +85,9 @@ module _ (bytes : List ℕ) where
   after_one : (n most : ℕ) → 0 < n → HasOneChunk bytes n → N.chunks_size (suc (suc most)) (drop 8 bytes) ≡ 4 + n + 4
   after_one n most some x =
       let end : drop (4 + n) (drop 8 bytes) ≡ drop (12 + n) bytes = N.drop-drop (4 + n) 8 bytes ∙ ap (λ (k : ℕ). drop k bytes) (omega arith) in
-      chunks_next (suc most) n (drop 8 bytes) x.counted some
-      ∙ ap (λ (k : ℕ). 4 + n + k) (chunks_end most (drop (4 + n) (drop 8 bytes)) (ap (little_number 4) end ∙ x.ended some))
+      let next = chunks_next (suc most) n (drop 8 bytes) x.counted some in
+      let last = chunks_end most (drop (4 + n) (drop 8 bytes)) (rw end (x.ended some)) in
+      grind arith
 
   after_total : (n most : ℕ) → HasOneChunk bytes n → 8 + N.chunks_size (suc (suc most)) (drop 8 bytes) ≡ N.chunk_end n
   after_total n most x = elim (cases_lt 0 n) [
@@ -96,7 +98,7 @@ module _ (bytes : List ℕ) where
   pub one_chunk_size : (n : ℕ) → little_number 8 bytes ≢ 2 ^ 64 - 1 → HasOneChunk bytes n → N.chunk_end n ≡ N.long_size N.Chunked bytes
   one_chunk_size n some x =
       let most : length bytes ≡ suc (suc (length bytes - 2)) = grind arith in
-      size_is bytes (N.chunk_end n) some (ap (λ (k : ℕ). 8 + N.chunks_size k (drop 8 bytes)) most ∙ after_total n (length bytes - 2) x)
+      size_is bytes (N.chunk_end n) some (rw most (after_total n (length bytes - 2) x))
 
   -- one chunk whose total agrees, with the terminator, spells its data
   chunk_spells : (n : ℕ) → HasOneChunk bytes n → SpellsChunked (chunk_data n bytes) (take (N.chunk_end n) bytes)

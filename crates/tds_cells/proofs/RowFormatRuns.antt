@@ -84,8 +84,8 @@ module _ (charset : N.Charset) (columns : List Column) where
         y.1,
         p ++ y.2,
         y.3,
-        ap (λ l. a ++ l) y.4 ∙ sym (N.append_assoc a y.0 y.1),
-        ap (λ l. p ++ l) y.5 ∙ sym (N.append_assoc p y.2 y.3),
+        rw (y.4, N.append_assoc),
+        rw (y.5, N.append_assoc),
         marked_both nulls from n m a y.0 p y.2 x y.6,
         rw at at y.7,
       )
@@ -235,50 +235,49 @@ rest_ahead row_format at row all are some =
 abbrev known_span : N.KnownRun → N.RowsSpan
 known_span run = record { used = run.used; made = run.made; rows = run.rows }
 
-pub ran_at : {row_format : RowFormat} {column : ℕ} {bytes text : List ℕ} {run : N.KnownRun} → KnownRan row_format column bytes text run
-    → (walk : N.Walk) → Ran row_format Unmarked (N.place walk column) (N.place walk run.column) bytes text (known_span run)
-ran_at x walk = record { used = x.used; made = x.made; few = x.few; writes = x.writes walk }
+module _ {row_format : RowFormat} {column : ℕ} {bytes to : List ℕ} where
+  pub ran_at : {run : N.KnownRun} → KnownRan row_format column bytes to run
+      → (walk : N.Walk) → Ran row_format Unmarked (N.place walk column) (N.place walk run.column) bytes to (known_span run)
+  ran_at x walk = record { used = x.used; made = x.made; few = x.few; writes = x.writes walk }
 
-pub known_ran : {row_format : RowFormat} {column : ℕ} {bytes text : List ℕ} {run : N.KnownRun}
-    → ((walk : N.Walk) → Ran row_format Unmarked (N.place walk column) (N.place walk run.column) bytes text (known_span run))
-    → KnownRan row_format column bytes text run
-known_ran {row_format} x = let y = x row_format.rest in record { used = y.used; made = y.made; few = y.few; writes = λ walk. (x walk).writes }
+  pub known_ran : {run : N.KnownRun} → ((walk : N.Walk) → Ran row_format Unmarked (N.place walk column) (N.place walk run.column) bytes to (known_span run))
+      → KnownRan row_format column bytes to run
+  known_ran x = let y = x row_format.rest in record { used = y.used; made = y.made; few = y.few; writes = λ walk. (x walk).writes }
 
-pub known_begin : {row_format : RowFormat} {column : ℕ} {bytes to : List ℕ}
-    → KnownRan row_format column bytes to (record { used = 0; made = 0; rows = 0; column = column })
-known_begin = known_ran (λ walk. rows_begin)
+  pub known_begin : KnownRan row_format column bytes to (record { used = 0; made = 0; rows = 0; column = column })
+  known_begin = known_ran (λ walk. rows_begin)
 
--- one row more, after its token byte
-pub known_begun : {row_format : RowFormat} {column : ℕ} {bytes to : List ℕ} {run : N.KnownRun} → row_format.known ≡ row_format.count
-    → 0 < row_format.count → row_format.count ≤ run.column → N.BeginsRow (unused run.used bytes) → KnownRan row_format column bytes to run
-    → KnownRan row_format column bytes to (record { used = run.used + 1; made = run.made; rows = run.rows + 1; column = 0 })
-known_begun {row_format} {run = run} all some end begins x = known_ran (λ walk. row_begun some end (begins, refl)
-    (place_known row_format (N.place walk run.column) run.column 0 all (omega arith)) (ran_at x walk))
+  -- one row more, after its token byte
+  pub known_begun : {run : N.KnownRun} → row_format.known ≡ row_format.count → 0 < row_format.count → row_format.count ≤ run.column
+      → N.BeginsRow (unused run.used bytes) → KnownRan row_format column bytes to run
+      → KnownRan row_format column bytes to (record { used = run.used + 1; made = run.made; rows = run.rows + 1; column = 0 })
+  known_begun {run} all some end begins x = known_ran (λ walk. row_begun some end (begins, refl)
+      (place_known row_format (N.place walk run.column) run.column 0 all (omega arith)) (ran_at x walk))
 
--- what stands after what was made may be another
-pub known_kept : {row_format : RowFormat} {column : ℕ} {bytes to new : List ℕ} {run : N.KnownRun} → length new ≡ length to
-    → take run.made new ≡ take run.made to → KnownRan row_format column bytes to run → KnownRan row_format column bytes new run
-known_kept same is x = grind arith
+  -- what stands after what was made may be another
+  pub known_kept : {new : List ℕ} {run : N.KnownRun} → length new ≡ length to → take run.made new ≡ take run.made to
+      → KnownRan row_format column bytes to run → KnownRan row_format column bytes new run
+  known_kept same is x = grind arith
 
--- a run, and then another from where it ended
-pub known_further : {row_format : RowFormat} {column : ℕ} {bytes to : List ℕ} {run more : N.KnownRun} (text rest : List ℕ)
-    → KnownRan row_format column bytes to run → KnownRan row_format run.column (unused run.used bytes) text more
-    → KnownRan row_format column bytes (take run.made to ++ (text ++ rest))
-    (record { used = run.used + more.used; made = run.made + more.made; rows = run.rows + more.rows; column = more.column })
-known_further {bytes = bytes} {to = to} {run = run} {more = more} text rest x y = record {
-  used = grind (arith, N.length-take);
-  made = grind (arith, N.length-append, N.length-take-le);
-  few = omega arith;
-  writes = λ walk columns knows begun.
-      let (ahead, first) = x.writes walk columns knows begun in
-      let (there, then_more) = y.writes walk columns knows ahead in (
-        there,
-        λ charset cells set counted.
-            let w = first charset cells set counted in
-            rw (used_more run.used more.used bytes, made_more run.made more.made to text rest x.made y.made)
-            (rows_both w (then_more charset w.more set w.counted)),
-      );
-}
+  -- a run, and then another from where it ended
+  pub known_further : {run more : N.KnownRun} (text rest : List ℕ) → KnownRan row_format column bytes to run
+      → KnownRan row_format run.column (unused run.used bytes) text more
+      → KnownRan row_format column bytes (take run.made to ++ (text ++ rest))
+      (record { used = run.used + more.used; made = run.made + more.made; rows = run.rows + more.rows; column = more.column })
+  known_further {run} {more} text rest x y = record {
+    used = grind (arith, N.length-take);
+    made = grind (arith, N.length-append, N.length-take-le);
+    few = omega arith;
+    writes = λ walk columns knows begun.
+        let (ahead, first) = x.writes walk columns knows begun in
+        let (there, then_more) = y.writes walk columns knows ahead in (
+          there,
+          λ charset cells set counted.
+              let w = first charset cells set counted in
+              rw (used_more run.used more.used bytes, made_more run.made more.made to text rest x.made y.made)
+              (rows_both w (then_more charset w.more set w.counted)),
+        );
+  }
 
 -- a whole row more, whose place is counted from the front of all
 pub row_far : {bytes to : List ℕ} {rows used made : ℕ} (row_format : RowFormat) (row : List CellFormat) (run : N.FormatsRun) (new : List ℕ)

@@ -25,9 +25,9 @@ module _ (charset : N.Charset) where
   cells_are_read before ((k, N.true) ∷ ks) (c ∷ cs) bytes h = grind (arith, N.append_assoc, (cells_are_read (before ++ N.Null ∷ []) ks cs bytes h.1))
   cells_are_read before ((k, N.false) ∷ ks) (c ∷ cs) _ h =
       let one = N.CellLaws.cell_is_read _ k.kind _ c h.0 (shape-HasBytes k.kind) h.3 in
-      let first = rw begins_open at (N.Inside-Spelt _ _ _ (cell_in_row before ks) _ h.0 _ one) in
-      let more = rw N.append_assoc at (cells_are_read (before ++ c ∷ []) ks cs h.1 h.4) in
-      rw h.2 (N.Spelt-append _ _ h.0 _ h.1 _ first more)
+      let first = N.Inside-Spelt _ _ _ (cell_in_row before ks) _ h.0 _ one in
+      let more = cells_are_read (before ++ c ∷ []) ks cs h.1 h.4 in
+      grind (arith, N.append_assoc, begins_open, N.Spelt-append)
   cells_are_read _ _ _ _ h = absurd h
 
   pub row_is_read : (columns : List Column) (cells : List Cell) (bytes : List ℕ) → N.SpellsRow N.PlainRow charset columns cells bytes

@@ -79,11 +79,11 @@ module _ (charset : N.Charset) where
         → RowMeans columns nbc (N.row_add charset p e) (b ++ e)
     row_step false (Bitmap cs) b e _ h n = cc
     row_step true (Bitmap cs) b e _ h n =
-        from_marked _ e [] _ (ap (λ v. v ++ e) h.2 ∙ sym (N.append-nil e)) (grind arith)
+        from_marked _ e [] _ (rw (h.2, N.append-nil)) (grind arith)
         (rw h.0 (next_means (marked columns _ 0) [] (marked columns _ 0) [] [] refl refl))
     row_step false (N.InCell cells part ks) b e bytes h n = from_plain _ _ (marked_step _ b e bytes h n)
     row_step true (N.InCell cells part ks) b e bytes h n =
-        from_marked _ h.0 _ _ (ap (λ v. v ++ e) h.2 ∙ N.append_assoc h.0 h.1 e) h.3 (marked_step _ h.1 e bytes h.4 n)
+        from_marked _ h.0 _ _ (rw (h.2, N.append_assoc)) h.3 (marked_step _ h.1 e bytes h.4 n)
     row_step _ (N.WholeRow cells) b e _ h n = grind arith
 
     pub row_start_means : RowMeans columns false (N.row_start N.PlainRow charset columns) []

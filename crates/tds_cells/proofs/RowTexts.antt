@@ -15,7 +15,7 @@ after_append _ a b = grind arith
 
 pub joined_snoc : (fields : List (List ℕ)) (f : List ℕ) → joined fields ++ N.after_comma (length fields) f ≡ joined (fields ++ f ∷ [])
 joined_snoc [] f = refl
-joined_snoc (g ∷ []) f = sym (N.append_assoc g _ f)
+joined_snoc (g ∷ []) f = rw N.append_assoc
 joined_snoc (g ∷ h ∷ gs) f = grind (arith, N.append_assoc, (joined_snoc (h ∷ gs) f))
 
 -- ---- a cell whose text comes with its last element alone
@@ -68,21 +68,13 @@ none_ahead (c ∷ cs) n = refl
 one_more : (cells : List Cell) (v : Cell) (ks : List (Column × Bool)) {text : List ℕ}
     → (joined (map field (cells ++ v ∷ [])) ++ N.end_after (ends ks)) ++ nulls_ahead (length (cells ++ v ∷ [])) ks ≡ text
     → (joined (map field cells) ++ N.in_line (length cells) (ends ks) (field v)) ++ nulls_ahead (length cells + 1) ks ≡ text
-one_more cells v ks is =
-    let begun =
-    sym (N.append_assoc (joined (map field cells)) _ _) ∙ ap (λ l. l ++ N.end_after (ends ks)) (cell_more cells v) in
-    ap (λ l. l ++ nulls_ahead (length cells + 1) ks) begun
-    ∙ ap (λ n. (joined (map field (cells ++ v ∷ [])) ++ N.end_after (ends ks)) ++ nulls_ahead n ks) (sym (N.length-append cells _)) ∙ is
+one_more cells v _ is = rw (← N.append_assoc, cell_more, ← N.length-append cells (v ∷ [])) is
 
 -- a row's text so far is that of its whole cells, the end of the line where no column follows, and that of the NULLs to come
 pub nulls_text : (charset : Charset) (cells : List Cell) (ks : List (Column × Bool))
     → (joined (map field cells) ++ N.end_after (ends ks)) ++ nulls_ahead (length cells) ks ≡ N.row_so_far (N.next_cell charset cells ks)
 nulls_text _ _ [] = N.append-nil _
-nulls_text charset cells ((k, true) ∷ ks) =
-    let tail = nulls_ahead _ ks in
-    ap (λ l. l ++ (N.in_line (length cells) (ends ks) N.null_field ++ tail)) (N.append-nil _)
-    ∙ sym (N.append_assoc _ _ tail)
-    ∙ one_more cells N.Null ks (nulls_text charset _ ks)
+nulls_text charset cells ((k, true) ∷ ks) = rw (N.append-nil, ← N.append_assoc) (one_more cells N.Null ks (nulls_text charset _ ks))
 nulls_text _ _ ((k, false) ∷ ks) = search N.rules
 
 -- ---- a cell's text in its line

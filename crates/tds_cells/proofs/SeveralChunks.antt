@@ -82,7 +82,7 @@ module _ (c : Conversion) (bytes : List ℕ) where
     goes_on = λ chunks rest spelt. (chunks, refl, spelt);
     turns = 0;
     few = omega arith;
-    size = λ most. ap (λ (k : ℕ). 8 + chunks_size k (drop 8 bytes)) (omega arith);
+    size = λ most. grind arith;
   }
 
   -- after one more, whose data has a text of its own
@@ -114,9 +114,11 @@ module _ (c : Conversion) (bytes : List ℕ) where
             (y.0, y.1 ∙ sym (append_assoc x.content part (concat chunks)), rw (append_assoc x.front (header ++ part) rest) y.2);
         turns = suc x.turns;
         few = omega (arith, x.few);
-        size = λ most. ap (λ (k : ℕ). 8 + chunks_size k (drop 8 bytes)) (omega arith) ∙ x.size (suc most)
-            ∙ ap (λ (k : ℕ). at + k) (chunks_next most n (drop at bytes) counted some ∙ ap (λ l. 4 + n + chunks_size most l) (N.drop-drop (4 + n) at bytes))
-            ∙ omega arith;
+        size = λ most.
+            let before = x.size (suc most) in
+            let next = chunks_next most n (drop at bytes) counted some in
+            let turns : x.turns + suc most ≡ suc x.turns + most = omega arith in
+            grind (arith, N.drop-drop);
       }
 
   -- after the terminator, if the total agrees
@@ -126,9 +128,12 @@ module _ (c : Conversion) (bytes : List ℕ) where
       → N.LongWritten c N.Chunked bytes room closed (N.Some (record { used = at + 4; made = end }))
   chunks_written {to = to} {at = at} {made = made} {sum = sum} total end room closed x within none total_is some most agrees is fits = (
     record {
-      whole = size_is bytes (at + 4) some
-          (ap (λ (k : ℕ). 8 + chunks_size k (drop 8 bytes)) (omega (arith, x.few)) ∙ x.size (suc (length bytes - x.turns - 1))
-          ∙ ap (λ (k : ℕ). at + k) (chunks_end _ (drop at bytes) none));
+      whole =
+          let most = length bytes - x.turns - 1 in
+          let before = x.size (suc most) in
+          let end = chunks_end most (drop at bytes) none in
+          let all : length bytes ≡ x.turns + suc most = omega (arith, x.few) in
+          size_is bytes (at + 4) some (grind arith);
       used = within;
       made = fits;
     },
@@ -151,7 +156,6 @@ module _ (c : Conversion) (bytes : List ℕ) where
         record {
           value = N.DataCell c x.content;
           spelt = cell_is_read column (N.Wide N.Chunked) (N.LongShape c N.Chunked) _ _ tt (refl, fit, spells);
-          text_is = ap (λ l. N.in_line column last l) (is ∙ ap (λ l. l ++ closing (is_quoted c)) x.text_is
-              ∙ rw (x.alone, text_none c) at (N.open_closes c x.content fit));
+          text_is = rw (is, x.text_is, rw (x.alone, text_none c) at (N.open_closes c x.content fit));
         },
   )

@@ -59,15 +59,15 @@ counted_written : (column : ℕ) (kind : Kind) (n : ℕ) (last : Bool) (bytes te
     → IsValueText kind column last (take n (drop 1 bytes)) text
     → WritesCell (N.ScalarLength kind) column last (take (1 + n) bytes) text
 counted_written column kind n _ bytes _ is some within x =
-    let whole = N.length-take-le n _ (grind arith) in
-    let good = ap (N.is_length_allowed kind) (N.sym whole) ∙ read_allowed kind _ x.0 x.1 in
+    let whole = N.length-take-le n (drop 1 bytes) (grind arith) in
+    let good = rw whole at (read_allowed kind _ x.0 x.1) in
     let to : (N.cell column).add (N.ScalarLength kind) (n ∷ []) ≡ N.ScalarBytes kind n = grind arith in
     record {
       value = N.ScalarCell x.0;
       front = n ∷ [];
       at = N.ScalarBytes kind n;
-      element = take n _;
-      joined = N.sym (N.take-add 1 n bytes ∙ ap (λ l. l ++ take n (drop 1 bytes)) (first_of bytes n (omega arith) is));
+      element = take n (drop 1 bytes);
+      joined = rw (N.take-add, first_of bytes n (omega arith) is);
       spelt = grind (arith, N.Spelt-one);
       next = grind arith;
       whole = cc;

@@ -1,22 +1,12 @@
 use Rattle.tds_cells.proofs as N
 use N.row_format.RowFormat.learn.Goals as goal
-use N.{◌∙◌, ap, sym, arith, is_counted, is_int4}
+use N.{◌≡◌, ◌∙◌, ◌⊎◌, ap, sym, arith, is_counted, is_int4}
 use N.row_format.RowFormat.learn.Goals.{else-loop-known-test, then-loop-known-test+in_default}
 use N.LaidOut.{each_set, kind_set}
 use N.RowFormatSteps.{all_more, first_more, next_column}
 
 pub loop-known-init : goal.loop-known-init
-loop-known-init c = record {
-  most = search arith;
-  few = search arith;
-  first = search arith;
-  laid = c.requires.laid;
-  numbers = λ _. c.requires.numbers;
-  counted = λ _. c.requires.counted;
-  numbers_are = search arith;
-  counted_are = search arith;
-  rest = search arith;
-}
+loop-known-init c = grind arith
 
 pub loop-known-preserved : goal.loop-known-preserved
 loop-known-preserved c =
@@ -44,23 +34,13 @@ pub returns : goal.returns
 returns c =
     let inv = c.loop-known.invariant in
     let columns = N.columns_of c.args.columns.bytes.now in
-    record {
-      there = inv.most;
-      few = inv.few;
-      first = inv.first;
-      laid = inv.laid;
-      numbers = inv.numbers;
-      counted = inv.counted;
-      all = elim c.loop-known-test.branch [
-        | else-loop-known-test w ↦ N.inl (omega arith)
-        | then-loop-known-test+in_default w ↦ N.inr (omega (
-          arith,
-          inv.few,
-          N.length-drop c.loop-known.known columns,
-          ap N.length (sym inv.rest ∙ w.in_default.ensures.steps.0),
-        ))
-      ];
-      numbers_are = inv.numbers_are;
-      counted_are = inv.counted_are;
-      rest = search arith;
-    }
+    let all : (c.loop-known.known ≡ N.length c.loop-known.formats) ⊎ (c.loop-known.known ≡ N.length columns) = elim c.loop-known-test.branch [
+      | else-loop-known-test w ↦ N.inl (omega arith)
+      | then-loop-known-test+in_default w ↦ N.inr (omega (
+        arith,
+        inv.few,
+        N.length-drop c.loop-known.known columns,
+        ap N.length (sym inv.rest ∙ w.in_default.ensures.steps.0),
+      ))
+    ] in
+    grind arith

@@ -9,16 +9,7 @@ pub loop-cells-init : goal.loop-cells-init
 loop-cells-init g c =
     let from = c.args.from in
     let used : from.used - from.used ≡ 0 = omega arith in
-    record {
-      from = omega arith;
-      begun = omega arith;
-      size = refl;
-      kept = refl;
-      at = search (arith, rules);
-      whole = omega arith;
-      fits = omega arith;
-      writes = grind (arith, N.append-nil);
-    }
+    grind (arith, N.append-nil)
 
 pub loop-cells-preserved : goal.loop-cells-preserved
 loop-cells-preserved g c =
