@@ -27,7 +27,7 @@ module _ (column : ℕ) where
   short_data : (c : Conversion) (d : List ℕ) (x : ℕ) (xs : List ℕ) → is_fit c (d ++ x ∷ xs) ≡ true
       → Spelt (cell column) (N.ShortData c (length xs) d) (x ∷ xs) (WholeCell (DataCell c (d ++ x ∷ xs)))
   short_data c d x [] h = Spelt-step _ _ _ _ (omega arith) refl
-      (unless_true _ (N.and_from _ _ (N.fit_begins c _ [] (ap (is_fit c) (N.append-nil _) ∙ h)) h)) refl
+      (unless_true _ (N.and_from _ _ (N.fit_begins c _ [] (rw N.append-nil h)) h)) refl
   short_data c d x (y ∷ ys) h =
       let left = N.or_left _ _ (N.test_lt 0 (N.suc (length ys)) (omega arith)) in
       let k : is_fit c _ ≡ true = rw N.append_assoc h in
@@ -102,7 +102,7 @@ module _ (column : ℕ) where
           → Spelt (cell column) (Total c) (s.total ++ s.rest) (WholeCell (DataCell c d))
       go (N.inl u) = from N.None (ap N.known_total u) (omega arith) (rw u) (λ n h. refl) refl
       go (N.inr k) =
-          let even = ap (λ n. n % unit c == 0) k.0 ∙ ap (λ n. n == 0) (N.fit_units c d f) in
+          let even : (little s.total % unit c == 0) ≡ true = rw (k.0, N.fit_units c d f) in
           from (Some (length d)) (grind arith) (omega arith) (N.or_right _ _ even) (λ n few. grind arith) (grind arith)
 
   -- What spells a cell is read as that cell.

@@ -84,7 +84,7 @@ module _ (bytes : List ℕ) where
   -- its cell has as many bytes
   after_one : (n most : ℕ) → 0 < n → HasOneChunk bytes n → N.chunks_size (suc (suc most)) (drop 8 bytes) ≡ 4 + n + 4
   after_one n most some x =
-      let end : drop (4 + n) (drop 8 bytes) ≡ drop (12 + n) bytes = N.drop-drop (4 + n) 8 bytes ∙ ap (λ (k : ℕ). drop k bytes) (omega arith) in
+      let end : drop (4 + n) (drop 8 bytes) ≡ drop (12 + n) bytes = rw N.drop-drop (grind arith) in
       let next = chunks_next (suc most) n (drop 8 bytes) x.counted some in
       let last = chunks_end most (drop (4 + n) (drop 8 bytes)) (rw end (x.ended some)) in
       grind arith

@@ -109,26 +109,6 @@ text_more : (column k made m : ℕ) (to text rest before fields : List ℕ) → 
 text_more _ _ _ _ _ _ _ _ _ within few is =
     grind (arith, N.take_more_set, made_more, N.append_assoc, after_append, after_some_column, N.length-append, N.length-take-le)
 
-pub fields_more : {charset : Charset} {formats : List CellFormat} {column : ℕ} {bytes before : List ℕ} (to text rest : List ℕ) (k used u now made m : ℕ)
-    (d : CellFormat) → now ≡ used + u → made ≤ length to → m < length text → k < length formats
-    → N.WritesField charset (get_or formats k d).kind (take u (unused used bytes)) (take m text)
-    → FieldsWritten charset formats column bytes before to (record { cells = k; used = used; made = made })
-    → FieldsWritten charset formats column bytes before (N.slice_set (take made to ++ (text ++ rest)) (made + m) 44)
-    (record { cells = k + 1; used = now; made = made + m + 1 })
-fields_more {charset} {formats} {column} {bytes} {before} to text rest k used u _ made m d further within some there wrote x =
-    let one : N.WritesFormats charset formats column (suc k) _ _ = (
-      take used bytes,
-      take u _,
-      x.fields,
-      take m text,
-      used_more used u bytes,
-      refl,
-      x.writes,
-      λ format. rw (N.get_or_default formats k d format there) at wrote,
-    ) in
-    let text_is = text_more column k made m to text rest before x.fields within some x.text_is in
-    rw further (record { fields = x.fields ++ N.after_comma (column + k) (take m text); writes = grind arith; text_is = text_is })
-
 -- what is written from `at` on
 pub beyond_kept : (at m : ℕ) (to x rest : List ℕ) → at ≤ length to → m ≤ length x → take m (drop at (take at to ++ (x ++ rest))) ≡ take m x
 beyond_kept _ m _ x _ within fits = grind (arith, drop-append-le, N.take-append-le, N.length-take-le, N.drop_all)
@@ -194,44 +174,65 @@ pub fields_step : {formats : List CellFormat} {bytes : List ℕ} {room more_room
     → FieldsAt formats bytes more_room (cells + 1) now (made + m + 1)
 fields_step _ _ _ _ further same there within fits whole = grind (arith, whole_some)
 
--- a run that began after some text ended here
-pub fields_end : {charset : Charset} {formats : List CellFormat} {column : ℕ} {bytes : List ℕ} {cells used : ℕ} (at made : ℕ) (old to new : List ℕ)
-    → FieldsAt formats bytes (length new - at) cells used (made - at) → (at ≤ length old) × (made ≤ length new) → take made new ≡ take made to
-    → FieldsWritten charset formats column bytes (take at old) to (record { cells = cells; used = used; made = made })
-    → N.WritesFields charset formats column bytes (drop at new) (record { cells = cells; used = used; made = made - at })
-fields_end at made old _ new x (within, fits) same w = record {
-  within = grind (arith, N.length-drop);
-  room = grind (arith, N.length-drop);
-  fields = w.fields;
-  writes = w.writes;
-  text_is = (beyond at made old new _ within fits (same ∙ w.text_is)).text_is;
-}
+module _ {charset : Charset} {formats : List CellFormat} {column : ℕ} {bytes : List ℕ} where
+  pub fields_more : {before : List ℕ} (to text rest : List ℕ) (k used u now made m : ℕ)
+      (d : CellFormat) → now ≡ used + u → made ≤ length to → m < length text → k < length formats
+      → N.WritesField charset (get_or formats k d).kind (take u (unused used bytes)) (take m text)
+      → FieldsWritten charset formats column bytes before to (record { cells = k; used = used; made = made })
+      → FieldsWritten charset formats column bytes before (N.slice_set (take made to ++ (text ++ rest)) (made + m) 44)
+      (record { cells = k + 1; used = now; made = made + m + 1 })
+  fields_more {before} to text rest k used u _ made m d further within some there wrote x =
+      let one : N.WritesFormats charset formats column (suc k) _ _ = (
+        take used bytes,
+        take u _,
+        x.fields,
+        take m text,
+        used_more used u bytes,
+        refl,
+        x.writes,
+        λ format. rw (N.get_or_default formats k d format there) at wrote,
+      ) in
+      let text_is = text_more column k made m to text rest before x.fields within some x.text_is in
+      rw further (record { fields = x.fields ++ N.after_comma (column + k) (take m text); writes = grind arith; text_is = text_is })
 
--- its last comma gives way to the end of the line, or to nothing
-pub ended_run : {charset : Charset} {formats : List CellFormat} {column cells used : ℕ} {bytes : List ℕ} (at end made : ℕ) (old new e : List ℕ) → 0 < cells
-    → N.WritesFields charset formats column bytes (drop at old) (record { cells = cells; used = used; made = made - at }) → at ≤ made
-    → end ≤ (made - 1) + 2 → length new ≡ length old → take end new ≡ take (made - 1) old ++ e
-    → (end ≤ length new) × StandsFrom at end old new (take ((made - at) - 1) (drop at old) ++ e)
-ended_run at end made old new e some x begun most same is =
-    let room = x.room some in
-    let fits : end ≤ length new = omega (arith, N.length-drop at old) in
-    let split : made - 1 ≡ at + ((made - at) - 1) = omega arith in
-    (fits, beyond at end old new _ (omega (arith, N.length-drop at old)) fits (is ∙ rw (split, N.take-add) (N.append_assoc (take at old) _ e)))
+  -- a run that began after some text ended here
+  pub fields_end : {cells used : ℕ} (at made : ℕ) (old to new : List ℕ)
+      → FieldsAt formats bytes (length new - at) cells used (made - at) → (at ≤ length old) × (made ≤ length new) → take made new ≡ take made to
+      → FieldsWritten charset formats column bytes (take at old) to (record { cells = cells; used = used; made = made })
+      → N.WritesFields charset formats column bytes (drop at new) (record { cells = cells; used = used; made = made - at })
+  fields_end at made old _ new x (within, fits) same w = record {
+    within = grind (arith, N.length-drop);
+    room = grind (arith, N.length-drop);
+    fields = w.fields;
+    writes = w.writes;
+    text_is = (beyond at made old new _ within fits (same ∙ w.text_is)).text_is;
+  }
 
--- the run is over once the end of the line, or nothing, stands over the last comma
-pub fields_run : {charset : Charset} {formats : List CellFormat} {column : ℕ} {ends : Bool} {bytes text : List ℕ} {run : N.FormatsRun} (room made : ℕ)
-    (new : List ℕ) → 0 < run.cells → N.WritesFields charset formats column bytes text run → made ≤ room
-    → take made new ≡ take (run.made - 1) text ++ end_after (ends && (run.cells == length formats))
-    → N.RunsFormats charset formats column ends bytes room new (record run { made = made })
-fields_run {charset = charset} {formats = formats} {column = column} {ends = ends} {bytes = bytes} {text = text} {run = run} _ made new some x fits is =
-    let fields = x.fields in
-    let before = before_comma run.made _ text fields (omega arith) x.within.made x.text_is in
-    let text_is = is ∙ ap (λ l. l ++ end_after (ends && (run.cells == length formats))) before in
-    record {
-      within = omega arith;
-      ends = grind arith;
-      cells = grind (arith, run_marked);
-    }
+  -- its last comma gives way to the end of the line, or to nothing
+  pub ended_run : {cells used : ℕ} (at end made : ℕ) (old new e : List ℕ) → 0 < cells
+      → N.WritesFields charset formats column bytes (drop at old) (record { cells = cells; used = used; made = made - at }) → at ≤ made
+      → end ≤ (made - 1) + 2 → length new ≡ length old → take end new ≡ take (made - 1) old ++ e
+      → (end ≤ length new) × StandsFrom at end old new (take ((made - at) - 1) (drop at old) ++ e)
+  ended_run at end made old new e some x begun most same is =
+      let room = x.room some in
+      let fits : end ≤ length new = omega (arith, N.length-drop at old) in
+      let split : made - 1 ≡ at + ((made - at) - 1) = omega arith in
+      (fits, beyond at end old new _ (omega (arith, N.length-drop at old)) fits (is ∙ rw (split, N.take-add) (N.append_assoc (take at old) _ e)))
+
+  -- the run is over once the end of the line, or nothing, stands over the last comma
+  pub fields_run : {ends : Bool} {text : List ℕ} {run : N.FormatsRun} (room made : ℕ)
+      (new : List ℕ) → 0 < run.cells → N.WritesFields charset formats column bytes text run → made ≤ room
+      → take made new ≡ take (run.made - 1) text ++ end_after (ends && (run.cells == length formats))
+      → N.RunsFormats charset formats column ends bytes room new (record run { made = made })
+  fields_run {ends} {text} {run} _ made new some x fits is =
+      let fields = x.fields in
+      let before = before_comma run.made _ text fields (omega arith) x.within.made x.text_is in
+      let text_is = is ∙ ap (λ l. l ++ end_after (ends && (run.cells == length formats))) before in
+      record {
+        within = omega arith;
+        ends = grind arith;
+        cells = grind (arith, run_marked);
+      }
 
 -- its field, of at most 11, and the comma after it leave room for those of the others
 pub room_step : (n k made m room more : ℕ) → more ≡ room → k < n → m ≤ 11 → made + 12 * (n - k) + 25 ≤ room

@@ -1,7 +1,7 @@
 -- Cells by how their values are laid out.
 use Rattle.tds_cells.proofs as N
 use N.{◌&&◌, ◌≡◌, ℕ, ◌<◌, true, List, length, arith, Kind, CellFormat, Layout, Each}
-use Rattle.tds_cells.specs.declared.layout.Layout.TheVariants.{Chunked, Counted, Fixed, Short as ShortLayout}
+use Rattle.tds_cells.specs.declared.layout.Layout.TheVariants.{Counted, Fixed, Short as ShortLayout}
 
 pub each_set : (P : CellFormat → Type 0) (formats : List CellFormat) (k : ℕ) (f : CellFormat) → Each P formats → k < length formats → P f
     → Each P (N.slice_set formats k f)
@@ -37,9 +37,4 @@ module _ (charset : N.Charset) (kind : Kind) where
 -- where there are no bytes, a cell is left
 pub empty_left : (charset : N.Charset) (kind : Kind) (l : Layout) (bytes : List ℕ) (room : ℕ) → N.IsLaidOut charset kind l
     → ((content : N.Content) → l ≡ ShortLayout content → ⊥) → length bytes ≡ 0 → N.IsLeft charset kind bytes room
-empty_left _ _ (Fixed n) _ _ _ _ none =
-    grind arith
-empty_left _ _ Counted _ _ _ _ none =
-    grind arith
-empty_left _ _ (ShortLayout content) _ _ _ _ none = grind arith
-empty_left _ _ (Chunked content) _ room laid other none = grind arith
+empty_left _ _ _ _ _ laid other none = grind arith

@@ -168,12 +168,6 @@ none_written some none = grind arith
 
 module _ (row_format : RowFormat) (from : Cursor) (end : ℕ) (formats : List CellFormat) (within : end ≤ row_format.count)
     (ahead : N.AreAtCursor row_format from end formats) where
-  -- the first is that of the next column
-  pub first_next : {format : CellFormat} {rest : List CellFormat} → formats ≡ format ∷ rest → (columns : List Column) → Knows row_format columns
-      → IsCursor row_format columns from
-      → N.NextColumn columns from format.kind
-  first_next are _ knows is = grind arith
-
   module _ (ends : Bool) (end_is : ends ≡ (from.column + length formats == row_format.count)) where
     -- what was written by them is between two places of the row
     pub formats_between : (columns : List Column) → Knows row_format columns → IsCursor row_format columns from
@@ -190,10 +184,8 @@ module _ (row_format : RowFormat) (from : Cursor) (end : ℕ) (formats : List Ce
       → (room < N.CELL_ROOM) ⊎ ((false ≡ false) × N.IsLeft row_format.charset column.kind bytes room)
   first_left x columns column _ knows is step =
       let first = some_first _ ahead.some in
-      elim (x first.0 first.1 first.2) [
-        | inl few ↦ inl few
-        | inr y ↦ inr (grind arith)
-      ]
+      let y = x first.0 first.1 first.2 in
+      grind arith
 
   -- the cell after so many is left as the first of the others is
   pub next_left : {bytes : List ℕ} {room : ℕ} (k : ℕ) → N.FirstLeft row_format.charset (drop k formats) bytes room → k < length formats

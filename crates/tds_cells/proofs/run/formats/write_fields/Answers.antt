@@ -45,6 +45,6 @@ returns-clause-left c = λ format rest is. elim c.loop-cells-test.branch [
       let taken = w.index-formats-cells.result in
       let here : taken ≡ get_or formats l.cells taken = search (arith, rules) in
       let place : l.cells ≡ l.cells + 0 = omega arith in
-      let first = here ∙ ap (λ (n : ℕ). get_or formats n taken) place ∙ sym (get_or-drop l.cells formats 0 taken) ∙ ap (λ f. get_or f 0 taken) is in
+      let first : taken ≡ format = grind (arith, get_or-drop) in
       N.inr (grind (arith, left_less)))
 ]
