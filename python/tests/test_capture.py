@@ -231,6 +231,31 @@ class Captures(unittest.TestCase):
         self.assertEqual((run.returncode, Path(self.folder, "out", self.names()[0]).read_bytes()), (5, b"another"))
         self.assertIn(b"something else writes into this folder", notes)
 
+    def test_a_file_that_gets_the_name_of_a_text_first(self) -> None:
+        """It stays, also on a file system without links: it is made right before the call by which the text would get its name."""
+        program = (
+            "import errno, os, runpy, sys\n"
+            "has_links, is_taken = map(int, sys.argv.pop(1).split(','))\n"
+            "def before(call):\n"
+            "    def first(source, target, *rest, **options):\n"
+            "        if is_taken and os.path.basename(source).isdecimal() and not os.path.lexists(target):\n"
+            "            with open(target, 'wb') as file:\n"
+            "                file.write(b'another')\n"
+            "        return call(source, target, *rest, **options)\n"
+            "    return first\n"
+            "def link(source, target):\n"
+            "    if not has_links:\n"
+            "        raise PermissionError(errno.EPERM, 'Operation not permitted', source)\n"
+            "    own(source, target)\n"
+            "own, os.link, os.replace = os.link, before(link), before(os.replace)\n"
+            "runpy.run_module('gavyreto', run_name='__main__', alter_sys=True)\n")
+        self.captured(conversation().frames)
+        whole = self.texts()
+        for switches, status, texts in (("1,0", 3, whole), ("0,0", 3, whole), ("1,1", 5, {self.names()[0]: b"another"}), ("0,1", 5, {self.names()[0]: b"another"})):
+            words = [sys.executable, "-c", program, switches, "capture", "--program", PROGRAM, "capture", "out"]
+            came = subprocess.run(words, cwd=self.folder, capture_output=True, check=False, **started())
+            self.assertEqual((came.returncode, self.texts()), (status, texts), came.stderr)
+
     def test_files_that_are_compressed_or_come_by_a_pipe(self) -> None:
         made = captures.Capture()
         made.frames = conversation().frames

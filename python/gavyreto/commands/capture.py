@@ -20,6 +20,7 @@ from __future__ import annotations
 
 import argparse
 import contextlib
+import errno
 import itertools
 import os
 import signal
@@ -49,6 +50,7 @@ HEADER = ("text", "client", "server", "time", "statement", "status", "line")
 FRAMES = 256  # after so many the time is looked at
 MOST_COUNTED = 1 << 14  # connections whose number of texts is kept
 EPOCH = datetime(1970, 1, 1, tzinfo=timezone.utc)
+WITHOUT_LINKS = (errno.EPERM, errno.EOPNOTSUPP, errno.EMLINK, errno.ENOSYS)  # of a file system on which a file has one name
 
 
 @contextlib.contextmanager
@@ -96,9 +98,10 @@ class Export:
     def _put_file(self, path: str, name: str) -> None:
         """Gives a file its name in the folder, unless something has put one there."""
         target = os.path.join(self._asked.out, name)
-        if os.path.lexists(target):
-            raise Stopped(f"{target} is there: something else writes into this folder", FAILED)
-        os.replace(path, target)
+        try:
+            rename(path, target)
+        except FileExistsError:
+            raise Stopped(f"{target} is there: something else writes into this folder", FAILED) from None
 
     def _adapt(self, packets: str) -> None:
         """Rewrites columns that the program refuses. What can't be followed stays as it is, and the program says why."""
@@ -140,6 +143,19 @@ class Export:
 
     def _count(self, status: int) -> None:
         self.worst = max(self.worst, status if status in (0, SERVER_ERROR, BAD_INPUT) else FAILED)
+
+
+def rename(path: str, target: str) -> None:
+    """Gives a file another name, which nothing has. Raises FileExistsError if something has it."""
+    try:
+        os.link(path, target)
+    except OSError as failure:
+        if failure.errno not in WITHOUT_LINKS:
+            raise
+        os.close(os.open(target, os.O_WRONLY | os.O_CREAT | os.O_EXCL))
+        os.replace(path, target)
+    else:
+        os.remove(path)
 
 
 def moment_of(time: int) -> Optional[str]:
