@@ -11,7 +11,7 @@ from collections.abc import Iterator
 from typing import NamedTuple, Union
 
 from gavyreto.commands.common import (
-    STANDARD_ERROR, STANDARD_INPUT, STANDARD_OUTPUT, STREAMS, TWO_PLACES, Stopped, are_two_places, cause_of, needed, opened_by, write,
+    STANDARD_ERROR, STANDARD_INPUT, STANDARD_OUTPUT, STREAMS, TWO_PLACES, Stopped, are_two_places, cause_of, lock, needed, opened_by, write,
 )
 from gavyreto.program import FAILED, REFUSED
 
@@ -150,9 +150,7 @@ class Opened:
         if mode and not stat.S_ISREG(mode):
             return os.open(self._path, os.O_WRONLY | os.O_CLOEXEC)
         self._waiting = self._path + PARTIAL
-        with contextlib.suppress(FileNotFoundError):
-            os.remove(self._waiting)
-        descriptor = os.open(self._waiting, os.O_WRONLY | os.O_CREAT | os.O_EXCL | os.O_CLOEXEC, 0o666)
+        descriptor = created(self._waiting)
         if mode:
             os.chmod(descriptor, stat.S_IMODE(mode))
         return descriptor
@@ -165,10 +163,28 @@ class Opened:
         """All is there, or what there is. A file that is whole gets its name."""
         if self.descriptor < 0:
             return
-        os.close(self.descriptor)
-        self.descriptor = -1
-        if self._waiting and is_whole:
-            try:
+        held, self.descriptor = self.descriptor, -1
+        try:
+            os.close(os.dup(held))  # which writes what was put off, and leaves the lock
+            if self._waiting and is_whole:
+                if not os.path.samestat(os.fstat(held), os.stat(self._waiting)):
+                    raise Stopped(f"{self._waiting}: another file has its name now", FAILED)
                 os.replace(self._waiting, self._path)
-            except OSError as failure:
-                raise Stopped(f"{self.name}: {cause_of(failure)}", FAILED) from None
+        except OSError as failure:
+            raise Stopped(f"{self.name}: {cause_of(failure)}", FAILED) from None
+        finally:
+            os.close(held)
+
+
+def created(path: str) -> int:
+    """A new file in the place of one that was left. Raises `Stopped` if another command writes that."""
+    with contextlib.suppress(FileNotFoundError):
+        left = os.open(path, os.O_WRONLY | os.O_NOFOLLOW | os.O_NONBLOCK | os.O_CLOEXEC)
+        try:
+            lock(path, left)
+            os.remove(path)
+        finally:
+            os.close(left)
+    descriptor = os.open(path, os.O_WRONLY | os.O_CREAT | os.O_EXCL | os.O_CLOEXEC, 0o666)
+    lock(path, descriptor)
+    return descriptor

@@ -225,7 +225,7 @@ class Captures(unittest.TestCase):
             cast(BinaryIO, run.stdin).flush()
             cast(BinaryIO, run.stdout).readline()
             second = self.run_capture("capture", "out")
-            self.assertEqual((second.returncode, second.stderr), (2, b"out: another command writes its texts there\n"))
+            self.assertEqual((second.returncode, second.stderr), (2, b"out: another command writes there\n"))
             Path(self.folder, "out", self.names()[0]).write_bytes(b"another")
             _, notes = run.communicate(data[5000:])
         self.assertEqual((run.returncode, Path(self.folder, "out", self.names()[0]).read_bytes()), (5, b"another"))

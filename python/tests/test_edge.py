@@ -114,6 +114,36 @@ class Outputs(Live):
         came = self.query("TRUSTED -o failed 'SELECT * FROM broken'")
         self.assertEqual((came.returncode, self.text("failed").count(b"\r\n")), (3, 5001 + 1667))
 
+    def test_a_text_under_way_has_its_own_file(self) -> None:
+        """While an answer comes another command isn't let into its file, and no other file gets the name of the text."""
+        waiting, others = self.path("rows.partial"), list[tuple[int, bytes]]()
+
+        def ask_too() -> None:
+            came = ask_port(1, "-o", "rows", "SELECT 2", cwd=self.folder)
+            others.append((came.returncode, came.stderr))
+
+        def replace() -> None:
+            os.remove(waiting)
+            with open(waiting, "xb") as file:
+                file.write(b"another")
+
+        for act, ending, left in (
+            (ask_too, (0, REPORT), {"rows": ORDERS}),
+            (replace, (5, f"{waiting}: another file has its name now"), {"rows": ORDERS, "rows.partial": b"another"}),
+        ):
+            def serve(channel: Channel) -> None:
+                log_in(channel)
+                channel.read_message()
+                act()
+                channel.write(ORDERED)
+                channel.receive()
+
+            with listening(serve) as port:
+                came = ask_port(port, "-o", "rows", "SELECT 1", cwd=self.folder)
+            names = [it for it in os.listdir(self.folder) if not it.endswith(".tds")]
+            self.assertEqual((came.returncode, came.stderr.decode().strip(), {it: self.text(it) for it in names}), (*ending, left))
+        self.assertEqual(others, [(2, f"{waiting}: another command writes there\n".encode())])
+
     def test_two_names_of_one_file(self) -> None:
         for words in ("'SELECT * FROM orders' 'SELECT * FROM sets'", "<<'END'\nSELECT * FROM orders\nGO\nSELECT * FROM sets\nEND\n"):
             came = self.query(f"TRUSTED -o 'r{{}}' {words}", (), "ln -sf one r1; ln -sf one r2; ")

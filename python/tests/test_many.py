@@ -440,7 +440,7 @@ class Here(Many):
         self.store(2)
         with self.beginning("-j", "1", "--program", self.holding(0), "in", "out") as first:
             wait_for(lambda: os.path.exists(self.path("held")))
-            self.assertEqual(self.many("--program", PROGRAM, "in", "out"), (2, f"{self.path('out')}: another command writes its texts there"))
+            self.assertEqual(self.many("--program", PROGRAM, "in", "out"), (2, f"{self.path('out')}: another command writes there"))
             self.let(ALL)
             self.assertEqual(first.wait(SECONDS), 0)
             first.communicate()

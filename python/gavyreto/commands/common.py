@@ -150,7 +150,7 @@ def folder_of_texts(path: str) -> Iterator[None]:
     os.makedirs(path, exist_ok=True)
     descriptor = os.open(path, os.O_RDONLY)
     try:
-        _lock(path, descriptor)
+        lock(path, descriptor)
         try:
             yield
             if not os.path.samestat(os.fstat(descriptor), os.stat(path)):
@@ -164,11 +164,12 @@ def folder_of_texts(path: str) -> Iterator[None]:
         os.close(descriptor)
 
 
-def _lock(path: str, descriptor: int) -> None:
+def lock(path: str, descriptor: int) -> None:
+    """Keeps a folder or a file for this command. Raises `Stopped` if another one has it."""
     try:
         fcntl.flock(descriptor, fcntl.LOCK_EX | fcntl.LOCK_NB)
     except BlockingIOError:
-        raise Stopped(f"{path}: another command writes its texts there", REFUSED) from None
+        raise Stopped(f"{path}: another command writes there", REFUSED) from None
 
 
 # Standard input, output and error.
