@@ -242,16 +242,14 @@ class Program(contextlib.AbstractContextManager["Program"]):
         process = subprocess.Popen(
             words, bufsize=0, stdin=subprocess.PIPE if self._source is None else self._source, stdout=subprocess.PIPE, stderr=subprocess.PIPE,
             start_new_session=True)
-        self._pipe, self.is_reading = process.stdin, process.stdin is not None
         self._text, self._notes = (cast("IO[bytes]", it).fileno() for it in (process.stdout, process.stderr))
         self._open = {self._text, self._notes}
-        if self._pipe:
-            self._input = self._pipe.fileno()
-            os.set_blocking(self._input, False)
-        for pipe in (process.stdin, process.stdout):
-            if pipe:
-                widen(pipe)
-        self._process = process
+        for pipe in filter(None, (process.stdin, process.stdout)):
+            widen(pipe)
+        given = process.stdin.fileno() if process.stdin else -1
+        if process.stdin:
+            os.set_blocking(given, False)
+        self._pipe, self._input, self._process, self.is_reading = process.stdin, given, process, process.stdin is not None
 
     def _is_under_way(self) -> bool:
         return self.ending is None and (self._handed > 0 or self._source is not None)

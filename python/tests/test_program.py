@@ -109,6 +109,22 @@ class Runs(unittest.TestCase):
             at += 1
         self.assertGreater(at, 20)
 
+    def test_the_end_of_a_program_that_did_not_start(self) -> None:
+        """After an interrupt at whatever line of a second start nothing is closed or changed that others have opened since."""
+        at, is_interrupted = 1, True
+        while is_interrupted:
+            run = Program(command())
+            ended(run, ORDERED)
+            run.close()
+            is_interrupted = interrupted(at, run.begin)
+            with contextlib.ExitStack() as stack:
+                others = [stack.enter_context(tempfile.TemporaryFile()) for _ in range(8)]
+                before = [os.fstat(it.fileno()) for it in others]
+                run.close()
+                self.assertTrue(all(map(os.path.samestat, before, [os.fstat(it.fileno()) for it in others])), at)
+            at += 1
+        self.assertGreater(at, 20)
+
     def test_a_response_that_is_left(self) -> None:
         """What was handed over of one doesn't count for the next."""
         with Program(command()) as run:
