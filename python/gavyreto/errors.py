@@ -197,3 +197,19 @@ class LoginRefused(ServerError, ConnectionFailed):
 
 class BadAnswer(InternalError):
     """What came over a connection isn't what a server of TDS 7.4 sends: to a greeting, to a login, or where nothing was asked."""
+
+
+# What came from elsewhere.
+
+def is_of(failure: BaseException, names: str) -> bool:
+    """Whether an exception has passed through nothing but modules whose names begin so: not through the handler of a signal."""
+    place = failure.__traceback__
+    while place and str(place.tb_frame.f_globals.get("__name__")).startswith(names):
+        place = place.tb_next
+    return place is None
+
+
+def check_own(failure: BaseException) -> None:
+    """Raises an exception again that came from elsewhere, and so says nothing of a text."""
+    if not is_of(failure, __name__.partition(".")[0] + "."):
+        raise failure

@@ -9,6 +9,7 @@ from typing import Callable, Iterator, NamedTuple, Optional, TypeVar
 
 from gavyreto import columns, tds
 from gavyreto.columns import COUNTED, FIXED, LONG, Column, Described, Type
+from gavyreto.errors import check_own
 from gavyreto.tds import DataType, Token
 
 Read = Callable[[int], bytes]
@@ -324,7 +325,8 @@ class LateDescriptions(Descriptions):
             while self._count <= place:
                 self._found[self._count] = [column.column() for column in next(self._walk)]
                 self._count += 1
-        except (StopIteration, ValueError, Ended, OSError):
+        except (StopIteration, ValueError, Ended, OSError) as failure:
+            check_own(failure)
             return None
         return self._found.get(place)
 

@@ -12,7 +12,7 @@ from operator import index, length_hint
 from typing import Any, Callable, Iterator, NamedTuple, NoReturn, Optional, Sequence, TypeVar, Union, cast
 
 from gavyreto.columns import FLOATS, Column
-from gavyreto.errors import Error, Interrupted, MalformedText, NotOneSet, PassedOver, UnfinishedText
+from gavyreto.errors import Error, Interrupted, MalformedText, NotOneSet, PassedOver, UnfinishedText, check_own, is_of
 from gavyreto.payload import Descriptions
 from gavyreto.records import BLOCK, SEPARATOR, LongField, LongRecord, OpenField, Read, Records, end_of_set, joined, outlined, record_at
 from gavyreto.rows import Row, row_type
@@ -104,7 +104,8 @@ class Parser:
         try:
             records = outline[:-len(SEPARATOR)].encode("ascii")
             columns = self._columns(records, values) if self._are_rows(records) else None
-        except ValueError:
+        except ValueError as wrong:
+            check_own(wrong)
             return None
         self._at = end if columns else self._at
         return columns
@@ -143,6 +144,7 @@ class Parser:
                     column.append(value)
                 self._at = after
         except ValueError as wrong:
+            check_own(wrong)
             self._wrong, self._block = wrong, self._block[:self._at]
         self._has_rows, self._row = True, None
         return columns
@@ -638,8 +640,10 @@ class Sets(Single):
         try:
             return step()
         except ValueError as wrong:
+            check_own(wrong)
             self._raise(MalformedText(str(wrong)))
-        except EOFError:
+        except EOFError as end:
+            check_own(end)
             self._parser.is_over = True
             self._end()
             self._raise(UnfinishedText(self._parser.records.rest))
@@ -666,9 +670,7 @@ class Sets(Single):
     def _end_by(self, failure: BaseException) -> None:
         """What an exception means that came while rows were read: one that passed through elsewhere, as through a signal's handler, makes the
         reading a failed one."""
-        place, is_own = failure.__traceback__, isinstance(failure, (Error, StopIteration, GeneratorExit, ValueError))
-        while place and is_own and not self._failure:
-            is_own, place = place.tb_frame.f_globals is globals(), place.tb_next
+        is_own = isinstance(failure, (Error, StopIteration, GeneratorExit, ValueError)) and is_of(failure, __name__)
         if not self._failure and not is_own and failure is not self._kept:
             self._failure = Interrupted(f"the reading was ended by {type(failure).__name__}: rows may be missing")
             self._failure.sets, self._failure.rows = self.sets, self.rows

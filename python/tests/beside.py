@@ -29,7 +29,7 @@ from lib import certificates, packing, sample_responses, served as served  # noq
 
 from gavyreto import tds  # noqa: E402
 from gavyreto.connection import Channel  # noqa: E402
-from gavyreto.errors import Interrupted, MalformedText  # noqa: E402
+from gavyreto.errors import Interrupted  # noqa: E402
 
 responses = sample_responses  # by the names that tests call them
 certificate_in, context_of = certificates.certificate_in, certificates.context_of
@@ -136,7 +136,7 @@ def interrupted(at: int, call: Callable[[], object], raised: BaseException = Key
         is_come = True
         raise raised
 
-    with contextlib.suppress(type(raised), Interrupted, MalformedText):
+    with contextlib.suppress(type(raised), Interrupted):
         meanwhile(at, call, come)
     raised.__traceback__ = None
     return is_come

@@ -160,7 +160,7 @@ class Rows(unittest.TestCase):
         calls: list[Callable[[Any], list[Any]]] = [
             lambda rows: [row for row in [rows.fetchone()] if row], lambda rows: [*rows.fetchmany(3)], lambda rows: list(islice(rows, 1)),
             lambda rows: list(zip(*next(rows.batches(3), [])))]
-        late = KeyboardInterrupt(), ValueError("late"), gavyreto.Error("late")  # what handlers of signals raise
+        late = KeyboardInterrupt(), ValueError("late"), EOFError("late"), gavyreto.Error("late")  # what handlers of signals raise
         for call, raised in product(calls, late):
             at = 1
             while self.interrupted_rows(at, call, raised):
@@ -179,7 +179,7 @@ class Rows(unittest.TestCase):
                 found.extend(row[0] for row in more)
 
         is_interrupted = interrupted(at, read, raised)
-        with contextlib.suppress(gavyreto.Interrupted, gavyreto.MalformedText):
+        with contextlib.suppress(gavyreto.Interrupted):
             read()
             self.assertEqual(found, list(range(9)), (at, raised))
         return is_interrupted
@@ -269,12 +269,12 @@ class Rows(unittest.TestCase):
                         if not catches:
                             raise
 
-                with contextlib.suppress(ValueError, gavyreto.MalformedText):
+                with contextlib.suppress(ValueError):
                     meanwhile(at, lambda: found.extend(taken(outer, rows)), come)
                 with self.subTest(outer=calls.index(outer), inner=calls.index(inner), at=at, catches=catches):
                     try:
                         found += taken(calls[0], rows)
-                    except (gavyreto.Interrupted, gavyreto.MalformedText):
+                    except gavyreto.Interrupted:
                         self.assertTrue(failed and not catches)
                     else:
                         self.assertEqual((sorted(map(int, found)), came.rows), (list(range(20)), 20))

@@ -18,6 +18,7 @@ import unittest
 from collections.abc import Iterator
 from datetime import datetime
 from decimal import Decimal
+from itertools import product
 from types import SimpleNamespace
 from typing import Any, Optional
 
@@ -198,10 +199,10 @@ class Columns(unittest.TestCase):
 
     def test_an_interrupt_while_types_are_read(self) -> None:
         """They are there after it, or the reading has failed: a frame would have others without them."""
-        for at in range(1, 150, 4):
-            with self.subTest(at=at), export(wire("sets")) as came:
+        for at, raised in product(range(1, 150, 4), (KeyboardInterrupt(), ValueError("late"), OSError("late"))):
+            with self.subTest(at=at, raised=raised), export(wire("sets")) as came:
                 rows = next(came)
-                interrupted(at, lambda rows=rows: rows.columns)  # type: ignore[misc]
+                interrupted(at, lambda rows=rows: rows.columns, raised)  # type: ignore[misc]
                 if rows.columns is None:
                     self.assertRaises(gavyreto.Interrupted, rows.fetchall)
 
