@@ -9,6 +9,7 @@ import threading
 import time
 from dataclasses import dataclass, fields
 from typing import Any, Generic, Iterable, Optional, Sequence, TypeVar
+from unicodedata import normalize
 
 from gavyreto.commands import common
 from gavyreto.commands.common import STANDARD_ERROR, Stopped, cause_of, is_one_file, line, tell, write
@@ -84,6 +85,7 @@ class Table(Generic[R]):
 
     def begin(self, again: set[str], names: Iterable[str]) -> None:
         """Leaves out the lines of what is to be done again, and of texts by these names, and goes on behind the others."""
+        names = [*names]
         texts = {name + end for name in names for end in (TEXT, PARTIAL)}
         own = (TABLE, *texts) if is_one_file(STANDARD_ERROR, STANDARD_ERROR) else ()
         for name in own:
@@ -92,6 +94,8 @@ class Table(Generic[R]):
         self.records = {key: record for key, record in self.records.items() if key not in again and record.text not in texts}
         with open(self._path + UNFINISHED, "wb") as out:
             write(out.name, out.fileno(), self._header + b"".join(map(_line_of, self.records.values())))
+        if is_one_file(out.name, os.path.join(self._folder, os.path.basename(out.name).swapcase())):
+            check_apart(TABLE.removesuffix(TEXT), *names, *map(os.path.basename, self.records))
         os.replace(out.name, self._path)
         self._descriptor = os.open(self._path, os.O_WRONLY | os.O_APPEND | os.O_CLOEXEC)
 
@@ -117,6 +121,15 @@ class Table(Generic[R]):
         write(self._path, self._descriptor, _line_of(record))
         self.records[record.name] = record
         return record
+
+
+def check_apart(*names: str) -> None:
+    """Refuses names that are one in a folder that takes small letters and capitals for the same: one text would replace another."""
+    known: dict[str, str] = {}
+    for name in names:
+        other = known.setdefault(normalize("NFD", name).casefold(), name)
+        if other != name:
+            raise Stopped(f"{other} and {name} would have one text, as this folder has no case: name another one", REFUSED)
 
 
 def _line_of(record: Record) -> bytes:

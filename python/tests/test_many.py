@@ -362,6 +362,17 @@ class Here(Many):
         status, line = self.many("--program", PROGRAM, "in", "out")
         self.assertEqual((status, line), (2, f"{self.path('in', 'outcomes')}: its text would have the name of the table, outcomes.csv: give the file another name"))
 
+    def test_names_that_differ_by_case(self) -> None:
+        """They are refused in a folder that has no case: here a link stands for the second name of its table."""
+        self.store(0, Straße=KINDS, STRASSE=KINDS)
+        self.assertEqual(self.many("--program", PROGRAM, "in", "out")[0], 0)
+        os.remove(self.path("out", "outcomes.csv"))
+        for name in "STRASSE.csv", "Straße.csv":
+            os.remove(self.path("out", name))
+        os.symlink("outcomes.csv.unfinished", self.path("out", "OUTCOMES.CSV.UNFINISHED"))
+        line = "STRASSE and Straße would have one text, as this folder has no case: name another one"
+        self.assertEqual((self.many("--program", PROGRAM, "in", "out"), sorted(os.listdir(self.path("out")))[1:]), ((2, line), ["outcomes.csv.unfinished"]))
+
     def test_what_is_no_file_in_a_folder(self) -> None:
         """A link to nothing, a pipe and a folder have a line and the status 5."""
         self.store(1)
