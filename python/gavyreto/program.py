@@ -8,6 +8,7 @@ import os
 import re
 import select
 import shutil
+import stat
 import subprocess
 import time
 import weakref
@@ -152,6 +153,13 @@ def write_all(descriptor: int, data: bytes) -> None:
     left = memoryview(data)
     while left:
         left = left[os.write(descriptor, left):]
+
+
+def check_unchanged(before: os.stat_result, descriptor: int) -> None:
+    """Raises OSError if a file was written to since."""
+    found = os.fstat(descriptor)
+    if stat.S_ISREG(found.st_mode) and (found.st_size, found.st_mtime_ns) != (before.st_size, before.st_mtime_ns):
+        raise OSError(errno.EBUSY, "it changed while it was read")
 
 
 def command_of(program: str, packet_size: int, column_room: int, max_wire: int, charset: str) -> list[str]:

@@ -12,7 +12,7 @@ from typing import Any, Callable, Optional, Protocol, Union, cast
 from gavyreto import tds
 from gavyreto.adapting import Adapter
 from gavyreto.errors import BadAnswer, Error, Fault, ProgramFailed, Report, ServerError, UnfinishedAnswer
-from gavyreto.program import BLOCK, CHARSETS, COLUMN_ROOM, MAX_WIRE, OF_SIGNAL, PACKET_SIZE, PROGRAM, Ending, Program, Write, command_of
+from gavyreto.program import BLOCK, CHARSETS, COLUMN_ROOM, MAX_WIRE, OF_SIGNAL, PACKET_SIZE, PROGRAM, Ending, Program, Write, check_unchanged, command_of
 from gavyreto.payload import Descriptions, Ended, LateDescriptions, Payload, Read
 from gavyreto.text import Sets
 from gavyreto.values import Dates, check_dates
@@ -37,6 +37,7 @@ class HeldFile:
         self.descriptor = -1
         self.descriptor = os.dup(descriptor)
         self._start = self._at = os.lseek(descriptor, 0, os.SEEK_CUR)
+        self._before = os.fstat(descriptor)
 
     def read(self, most: int) -> bytes:
         data = os.pread(self.descriptor, most, self._at)
@@ -44,11 +45,12 @@ class HeldFile:
         return data
 
     def tail(self) -> bytes:
-        """The end of the payload, which is read again from its first packet on."""
+        """The end of the payload, which is read again from its first packet on. Raises OSError if that may be another one."""
         framing, at = tds.Framing(), self._start
         while not framing.is_over and (block := os.pread(self.descriptor, BLOCK, at)):
             framing.take(block)
             at += len(block)
+        check_unchanged(self._before, self.descriptor)
         return framing.tail
 
     def close(self) -> None:
@@ -183,7 +185,8 @@ def export(
 
     Raises OSError if the file or the program can't be opened, ValueError if the source is closed or doesn't block, TypeError
     for another source. While the sets and rows are read, once all that came before is handed out, it raises Fault,
-    ServerError or ProgramFailed, and what a method `read` of the source raised; RuntimeError if that is StopIteration."""
+    ServerError or ProgramFailed, OSError at the end of a file that changed meanwhile, and what a method `read` of the source raised;
+    RuntimeError if that is StopIteration."""
     check_dates(dates)
     command = command_of(program, packet_size, column_room, max_wire, charset)
     if adapt:

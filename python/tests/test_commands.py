@@ -8,6 +8,7 @@ import signal
 import subprocess
 import sys
 import tempfile
+import time
 import unittest
 from concurrent.futures import ThreadPoolExecutor
 from contextlib import redirect_stderr, redirect_stdout
@@ -50,6 +51,29 @@ class Exceptions(unittest.TestCase):
     def test_an_unforeseen_one_is_let_out_in_tests_alone(self) -> None:
         with mock.patch.object(entry, "run", side_effect=KeyError("x")), mock.patch.dict(os.environ, {common.OF_TESTS: "1"}), self.assertRaises(KeyError):
             entry.ended([])
+
+
+class Inputs(unittest.TestCase):
+    def test_a_file_that_changes(self) -> None:
+        """It is told at its end, which may come early then; a pipe ends as it does."""
+        for flags, data in (os.O_APPEND, b"more"), (0, b"other"), (os.O_TRUNC, b""):
+            with tempfile.NamedTemporaryFile() as file:
+                file.write(bytes(100))
+                file.flush()
+                time.sleep(0.02)  # which the time of a change tells apart
+                with io.BufferedReader(common.Input(file.name), 10) as source:
+                    source.read(5)
+                    changed = os.open(file.name, os.O_WRONLY | flags)
+                    os.write(changed, data)
+                    os.close(changed)
+                    with self.assertRaisesRegex(Stopped, f"^{file.name}: it changed while it was read$"):
+                        list(source)
+        reading, writing = os.pipe()
+        os.write(writing, b"some")
+        os.close(writing)
+        with common.Input(f"/dev/fd/{reading}") as pipe:
+            self.assertEqual(list(pipe), [b"some"])
+        os.close(reading)
 
 
 class Threads(Live):

@@ -14,6 +14,7 @@ import sys
 import tempfile
 import textwrap
 import threading
+import time
 import unittest
 from collections.abc import Iterator
 from datetime import datetime
@@ -223,6 +224,20 @@ class Columns(unittest.TestCase):
                 os.replace(path + ".new", path)
                 sets = list(came)
                 self.assertEqual([[it.type for it in one.columns or []] for one in sets], [["int", "nvarchar(40)"], ["decimal(9,2)"], ["int"]])
+
+    def test_a_file_that_changes(self) -> None:
+        """Its types and its end are read again: after a change they may be those of another response, which the rows aren't of."""
+        for flags, data in (os.O_APPEND, b"\4"), (0, wire("orders")), (os.O_TRUNC, wire("orders")):
+            with tempfile.NamedTemporaryFile() as file:
+                self.write_to(file.name, wire("orders"))
+                time.sleep(0.02)  # which the time of a change tells apart
+                with export(file.name) as came:
+                    rows = came.only()
+                    changed = os.open(file.name, os.O_WRONLY | flags)
+                    os.write(changed, data)
+                    os.close(changed)
+                    self.assertRaisesRegex(OSError, "it changed while it was read", rows.fetchall)
+                    self.assertRaisesRegex(gavyreto.Interrupted, "OSError", rows.fetchall)
 
     def test_rows_by_name_and_as_a_cursor_has_them(self) -> None:
         """PEP 249's calls; a row is a tuple, which pickle keeps, and has its names too."""

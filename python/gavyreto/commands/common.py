@@ -233,12 +233,14 @@ def are_two_places(one: int, other: int) -> bool:
 
 
 class Input(io.FileIO):
-    """A file, or standard input if its name is "-". It ends where it is over, and fails where nothing is there yet and nobody waits."""
+    """A file, or standard input if its name is "-". It ends where it is over, and fails where nothing is there yet and nobody waits, or if
+    it changed while it was read."""
 
     def __init__(self, name: str) -> None:
         self.shown = STREAMS[STANDARD_INPUT] if name == "-" else name  #: its name, for a line
         with self._named():
             super().__init__(needed(STANDARD_INPUT) if name == "-" else name, closefd=name != "-")
+        self._before = os.fstat(self.fileno())
 
     @contextlib.contextmanager
     def _named(self) -> Iterator[None]:
@@ -253,6 +255,8 @@ class Input(io.FileIO):
             count: Optional[int] = super().readinto(room)
             if count is None:
                 raise BlockingIOError(errno.EAGAIN, "nothing is there yet, and it doesn't block")
+            if not count and len(room):
+                program.check_unchanged(self._before, self.fileno())
         return count
 
 
