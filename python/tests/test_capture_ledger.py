@@ -156,9 +156,9 @@ class Shown(unittest.TestCase):
     def test_blocks_of_other_types(self) -> None:
         """Those that may have a frame are told."""
         frames = Talk().open().exchange(1).frames()
-        for kind in (0, 4, 7, 10, 11, 0x0BAD, 0x40000BAD, 0x0201, 0x80000001):
+        for kind in (0, 4, 7, 10, 11, 0x0BAD, 0x40000BAD, 0x0102, 0x0201, 0x0213, 0x0214, 0x80000001):
             came = read(pcapng(frames, b"", b"") + block(kind, bytes(40)))
-            self.assertEqual((came.answers, came.told), ([answer(1)], ["unknown blocks"] * (kind in (0, 11, 0x0201, 0x80000001))), kind)
+            self.assertEqual((came.answers, came.told), ([answer(1)], ["unknown blocks"] * (kind in (0, 11, 0x0214, 0x80000001))), kind)
 
     def test_a_copy_that_differs_of_what_was_acknowledged_before_it_came(self) -> None:
         """Which copy was received isn't known of a segment that comes after its acknowledgement, whatever an earlier one says behind it; of one

@@ -15,8 +15,8 @@ PCAP = {  # by the first bytes: the order of bytes, and the units of time in a s
 PCAPNG = b"\x0A\x0D\x0D\x0A"
 ORDERS = {b"\x4D\x3C\x2B\x1A": "<", b"\x1A\x2B\x3C\x4D": ">"}
 SECTION, INTERFACE, OLD_PACKET, SIMPLE_PACKET, STATISTICS, PACKET = 0x0A0D0D0A, 1, 2, 3, 5, 6  # types of blocks of pcapng
-# Others that have no frame: names, times of IRIG, AFDX, a journal of systemd, secrets, and blocks of their makers' own.
-WITHOUT_FRAMES = (SECTION, INTERFACE, STATISTICS, 4, 7, 8, 9, 10, 0x0BAD, 0x40000BAD)
+# Others that have no frame: names, times of IRIG, AFDX, a journal of systemd, secrets, those of Hone and sysdig, and of their makers' own.
+WITHOUT_FRAMES = (SECTION, INTERFACE, STATISTICS, 4, 7, 8, 9, 10, 0x101, 0x102, *range(0x201, 0x214), 0x0BAD, 0x40000BAD)
 RESOLUTION, OFFSET = 9, 14  # options of an interface: units of time in a second, seconds to add
 DROPPED_BEFORE = 4  # an option of a packet: frames that were lost before it (epb_dropcount)
 DROPPED = (5, 7)  # options of statistics: frames lost so far by the interface (isb_ifdrop) and by the system (isb_osdrop)
