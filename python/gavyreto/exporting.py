@@ -72,16 +72,19 @@ def _exported(file: str, waiting: str, command: list[str], adapts: Optional[str]
         found = os.fstat(source)
         if not stat.S_ISREG(found.st_mode):
             return Outcome(file, FAILED, f"cannot read {file}: no regular file")
-        ending, written, framing, left = _text_of(source, waiting, running(command), adapts)
+        run, version = running(command)
+        ending, written, framing, left = _text_of(source, waiting, run, adapts)
         if ending.status not in (DONE, SERVER_ERROR, BAD_INPUT):
             return Outcome(file, ending.status, ending.line)
         if stamp_of(os.fstat(source)) != stamp_of(found):
             return Outcome(file, FAILED, f"{file}: it changed while it was read")
+        if version_of(command[0]) != version:
+            return Outcome(file, FAILED, f"{command[0]}: it changed while it ran")
         if ending.status != BAD_INPUT and left:
             ending = ending._replace(status=BAD_INPUT, line=f"{ending.line}; {MORE}")
         unfinished = tds.unfinished(framing.tail) if ending.status == DONE else None
         status, line = (SERVER_ERROR, unfinished) if unfinished else (ending.status, ending.line)
-        return Outcome(file, status, line, waiting, written, stamp_of(found), version_of(command[0]))
+        return Outcome(file, status, line, waiting, written, stamp_of(found), version)
     finally:
         os.close(source)
 
@@ -120,15 +123,15 @@ _running = threading.local()
 _all: list[Program] = []
 
 
-def running(command: list[str]) -> Program:
-    """The program with these arguments that this thread runs, of the file that the program is at the moment."""
+def running(command: list[str]) -> tuple[Program, str]:
+    """The program with these arguments that this thread runs, of the file that the program is at the moment, and its version."""
     wanted = (command, version_of(command[0]))
     if getattr(_running, "wanted", None) != wanted:
         if getattr(_running, "program", None):
             _running.program.close()
         _running.program, _running.wanted = Program(command), wanted
         _all.append(_running.program)
-    return _running.program  # type: ignore[no-any-return]
+    return _running.program, wanted[1]
 
 
 def end_all() -> None:

@@ -274,6 +274,15 @@ class Here(Many):
         self.assertEqual(self.many("--program", changing, "in", "out")[0], 5)
         self.assertEqual(self.table(), [("000", 5, f"{self.path('in', '000')}: it changed while it was read")])
 
+    def test_a_program_that_changes_while_it_runs(self) -> None:
+        """Its text isn't that of the other one, with whose digest its line would be believed."""
+        self.store(1)
+        shutil.copy(self.relaying(":; :"), self.path("next"))
+        changing = self.relaying(f"if [ -e next ]; then mv next {self.path('program')}; fi")
+        self.assertEqual(self.many("--program", changing, "in", "out")[0], 5)
+        self.assertEqual(self.table(), [("000", 5, f"{changing}: it changed while it ran")])
+        self.assertEqual(self.many("--program", changing, "in", "out")[0], 0)
+
     def test_a_program_that_is_killed_costs_its_own_response(self) -> None:
         names = self.store(4)
         killed = self.relaying('echo run >> runs; test -e again || test "$(wc -l < runs)" != 2')
