@@ -26,7 +26,7 @@ LONG: dict[int, int] = {
 MAX = 0xFFFF
 NO_METADATA = 0xFFFF  # the count of a COLMETADATA without columns
 ROWVERSION = 80  # the user type of a rowversion, which is a binary(8) otherwise
-NULLABLE = 0x0001  # a bit of the flags
+NULLABLE = 0x8001  # bits of the flags: NULL is allowed, or it isn't known whether it is
 
 NAMES: dict[int, str] = {
     DataType.INT1: "tinyint", DataType.BIT: "bit", DataType.INT2: "smallint", DataType.INT4: "int", DataType.INT8: "bigint",
