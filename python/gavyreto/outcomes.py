@@ -8,7 +8,7 @@ import socket
 import threading
 import time
 from dataclasses import dataclass, fields
-from typing import Any, Generic, Iterable, Optional, Sequence, TypeVar
+from typing import Any, Collection, Generic, Optional, Sequence, TypeVar
 from unicodedata import normalize
 
 from gavyreto.commands import common
@@ -83,9 +83,8 @@ class Table(Generic[R]):
             at = after
         return records
 
-    def begin(self, again: set[str], names: Iterable[str]) -> None:
+    def begin(self, again: set[str], names: Collection[str]) -> None:
         """Leaves out the lines of what is to be done again, and of texts by these names, and goes on behind the others."""
-        names = [*names]
         texts = {name + end for name in names for end in (TEXT, PARTIAL)}
         own = (TABLE, *texts) if is_one_file(STANDARD_ERROR, STANDARD_ERROR) else ()
         for name in own:
@@ -95,7 +94,7 @@ class Table(Generic[R]):
         with open(self._path + UNFINISHED, "wb") as out:
             write(out.name, out.fileno(), self._header + b"".join(map(_line_of, self.records.values())))
         if is_one_file(out.name, os.path.join(self._folder, os.path.basename(out.name).swapcase())):
-            check_apart(TABLE.removesuffix(TEXT), *names, *map(os.path.basename, self.records))
+            check_apart(TABLE.removesuffix(TEXT), *names, *(os.path.basename(it) for it in self.records))
         os.replace(out.name, self._path)
         self._descriptor = os.open(self._path, os.O_WRONLY | os.O_APPEND | os.O_CLOEXEC)
 

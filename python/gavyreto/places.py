@@ -11,7 +11,7 @@ from collections.abc import Iterator
 from typing import NamedTuple, Union
 
 from gavyreto.commands.common import (
-    STANDARD_ERROR, STANDARD_INPUT, STANDARD_OUTPUT, STREAMS, TWO_PLACES, Stopped, are_two_places, cause_of, lock, needed, opened_by, write,
+    STANDARD_ERROR, STANDARD_INPUT, STANDARD_OUTPUT, STREAMS, TWO_PLACES, Stopped, are_two_places, lock, naming, needed, opened_by, write,
 )
 from gavyreto.program import FAILED, REFUSED
 
@@ -136,10 +136,8 @@ class Opened:
     def __init__(self, place: Place) -> None:
         self._path, self._waiting = place.path, ""
         self.name = place.path or place.name  #: for a line
-        try:
+        with naming(place.name):
             self.descriptor = self._opened() if place.path else os.dup(place.descriptor)
-        except OSError as failure:
-            raise Stopped(f"{place.name}: {cause_of(failure)}", FAILED) from None
 
     def _opened(self) -> int:
         """The file beside; what is no regular file, as a pipe or a device, itself."""
@@ -164,27 +162,20 @@ class Opened:
         if self.descriptor < 0:
             return
         held, self.descriptor = self.descriptor, -1
-        try:
-            os.close(os.dup(held))  # which writes what was put off, and leaves the lock
+        with naming(self.name), os.fdopen(held, "wb"):  # whose lock it has
+            os.close(os.dup(held))  # which writes what was put off
             if self._waiting and is_whole:
                 if not os.path.samestat(os.fstat(held), os.stat(self._waiting)):
                     raise Stopped(f"{self._waiting}: another file has its name now", FAILED)
                 os.replace(self._waiting, self._path)
-        except OSError as failure:
-            raise Stopped(f"{self.name}: {cause_of(failure)}", FAILED) from None
-        finally:
-            os.close(held)
 
 
 def created(path: str) -> int:
     """A new file in the place of one that was left. Raises `Stopped` if another command writes that."""
     with contextlib.suppress(FileNotFoundError):
-        left = os.open(path, os.O_WRONLY | os.O_NOFOLLOW | os.O_NONBLOCK | os.O_CLOEXEC)
-        try:
-            lock(path, left)
+        with open(path, "r+b") as left:
+            lock(path, left.fileno())
             os.remove(path)
-        finally:
-            os.close(left)
     descriptor = os.open(path, os.O_WRONLY | os.O_CREAT | os.O_EXCL | os.O_CLOEXEC, 0o666)
     lock(path, descriptor)
     return descriptor

@@ -17,9 +17,9 @@ MORE = [0x0002, 0x0008, 0x0010, 0x0020, 0x2000, 0x4000]  # bits of the flags tha
 
 
 class Kind(NamedTuple):
-    """A type: its bytes, as SQL writes it, length, precision and scale, a value, and NULL, if it has one."""
+    """A type: the bytes that describe it, as SQL writes it, length, precision and scale, a value, and NULL, if it has one."""
 
-    bytes: bytes
+    description: bytes
     sql: str
     value: bytes
     null: Optional[bytes] = b"\0"
@@ -92,7 +92,7 @@ def response_of(numbers: random.Random) -> tuple[bytes, list[list[list[Optional[
         for kind in kinds:
             name, null = numbers.choice(NAMES), numbers.choice([0x0000, 0x0001, 0x8000, 0x8001])
             units = name.encode("utf-16-le")
-            payload += struct.pack("<IH", 0, null | numbers.choice(MORE)) + kind.bytes + bytes([len(units) // 2]) + units
+            payload += struct.pack("<IH", 0, null | numbers.choice(MORE)) + kind.description + bytes([len(units) // 2]) + units
             sets[-1].append([name, kind.sql, *("NULL" if it is None else str(it) for it in (kind.length, kind.precision, kind.scale)), str(int(null != 0))])
         payload += b"".join(row_of(numbers, kinds) for _ in range(numbers.randrange(12)))
         payload += b"".join(other(numbers) for _ in range(numbers.randrange(3)))

@@ -14,8 +14,8 @@ import os
 from functools import partial
 
 from gavyreto.adapting import Adapter
-from gavyreto.commands.common import STANDARD_ERROR, STANDARD_OUTPUT, STREAMS, Stopped, cause_of, is_one_file, named, needed, open_response, opened_by, parser_of, write
-from gavyreto.program import BAD_INPUT, CHARSETS, FAILED, REFUSED
+from gavyreto.commands.common import STANDARD_ERROR, STANDARD_OUTPUT, STREAMS, Stopped, is_one_file, named, naming, needed, open_response, opened_by, parser_of, write
+from gavyreto.program import BAD_INPUT, CHARSETS, REFUSED
 
 
 def arguments(words: list[str]) -> argparse.Namespace:
@@ -36,10 +36,8 @@ def adapt(asked: argparse.Namespace) -> None:
             raise Stopped(f"{name}: the response is read from it", REFUSED)
         if asked.output and opened is None and is_one_file(asked.output, STANDARD_ERROR):
             raise Stopped(f"{name}: the lines are written to it", REFUSED)
-        try:
+        with naming(name):
             target = os.open(asked.output, os.O_WRONLY | os.O_CREAT | os.O_TRUNC, 0o666) if opened is None else opened
-        except OSError as failure:
-            raise Stopped(f"{name}: {cause_of(failure)}", FAILED) from None
         is_more = True
         while is_more:
             Adapter(source.read, partial(write, name, target), asked.charset).run()

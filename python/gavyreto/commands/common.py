@@ -88,6 +88,15 @@ def cause_of(failure: OSError) -> str:
     return failure.strerror or str(failure) or type(failure).__name__
 
 
+@contextlib.contextmanager
+def naming(name: str) -> Iterator[None]:
+    """Tells why a call of the system failed by the name of what it is of."""
+    try:
+        yield
+    except OSError as failure:
+        raise Stopped(f"{name}: {cause_of(failure)}", FAILED) from None
+
+
 class Progress:
     """A line on a terminal, which is written anew from time to time, and taken away in the end."""
 
@@ -238,20 +247,12 @@ class Input(io.FileIO):
 
     def __init__(self, name: str) -> None:
         self.shown = STREAMS[STANDARD_INPUT] if name == "-" else name  #: its name, for a line
-        with self._named():
+        with naming(self.shown):
             super().__init__(needed(STANDARD_INPUT) if name == "-" else name, closefd=name != "-")
         self._before = os.fstat(self.fileno())
 
-    @contextlib.contextmanager
-    def _named(self) -> Iterator[None]:
-        """Tells what fails by the name."""
-        try:
-            yield
-        except OSError as failure:
-            raise Stopped(f"{self.shown}: {cause_of(failure)}", FAILED) from None
-
     def readinto(self, room: Any) -> int:
-        with self._named():
+        with naming(self.shown):
             count: Optional[int] = super().readinto(room)
             if count is None:
                 raise BlockingIOError(errno.EAGAIN, "nothing is there yet, and it doesn't block")
@@ -316,10 +317,8 @@ def check_input(source: Union[str, int], what: str) -> None:
 
 def write(name: str, descriptor: int, data: bytes) -> None:
     """Writes bytes. Raises `Stopped`, with the name of where they go, if they can't be written."""
-    try:
+    with naming(name):
         program.write_all(descriptor, data)
-    except OSError as failure:
-        raise Stopped(f"{name}: {cause_of(failure)}", FAILED) from None
 
 
 def put(text: str) -> None:

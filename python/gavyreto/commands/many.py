@@ -223,7 +223,7 @@ def export_left(files: list[str], asked: argparse.Namespace) -> int:
         table = Table(asked.out, options, place.version(asked.program))
         table.check(files)
         left = [file for file in files if not table.is_done(file)]
-        table.begin({*left}, map(os.path.basename, left))
+        table.begin({*left}, [os.path.basename(it) for it in left])
         progress, failed = Progress("responses", len(files), len(files) - len(left)), 0
         try:
             for outcome in place.outcomes(left, asked.out, command, asked.charset if asked.adapt else None):

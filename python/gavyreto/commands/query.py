@@ -31,7 +31,7 @@ from gavyreto import connection, program, tds
 from gavyreto.asking import Asking, Interrupt
 from gavyreto.commands import common
 from gavyreto.commands.common import (
-    STANDARD_INPUT, STANDARD_OUTPUT, Input, Stopped, add_options_of_program, cause_of, check_input, checked_program, is_one_file, named, needed, number_in, parser_of,
+    STANDARD_INPUT, STANDARD_OUTPUT, Input, Stopped, add_options_of_program, cause_of, check_input, checked_program, is_one_file, named, naming, needed, number_in, parser_of,
     tell_all,
 )
 from gavyreto.connection import Secret, Session
@@ -386,11 +386,8 @@ def password_of(asked: argparse.Namespace) -> str:
 def token_of(asked: argparse.Namespace, of_environment: str) -> Optional[str]:
     """The access token that is asked for, from a file or the environment."""
     if asked.access_token_file:
-        try:
-            with open(asked.access_token_file, encoding="ascii", errors="replace") as file:
-                return Secret(file.read(LONGEST_TOKEN + 2))  # a line end too
-        except OSError as failure:
-            raise Stopped(f"{asked.access_token_file}: {cause_of(failure)}", FAILED) from None
+        with naming(asked.access_token_file), open(asked.access_token_file, encoding="ascii", errors="replace") as file:
+            return Secret(file.read(LONGEST_TOKEN + 2))  # a line end too
     return of_environment or None if not asked.user and not asked.integrated else None
 
 
