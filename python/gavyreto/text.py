@@ -394,7 +394,9 @@ class ResultSet(Single):
                 self._go_to(len(self._values[0]))
             is_all = True
             return made()
-        except (Error, ValueError) as failure:
+        except Exception as failure:
+            if not is_all and not isinstance(failure, (Error, ValueError)):
+                raise
             self._sets._kept = failure if is_all else None
             handed_out = self._handed_out()
             self._hold(taken())

@@ -71,7 +71,7 @@ LEFT = """
 import gavyreto, pandas, sys
 from unittest import mock
 from tests import beside
-for failure, wanted in (ValueError, [1, 2, 3]), (KeyboardInterrupt, None):
+for failure, wanted in (ValueError, [1, 2, 3]), (OverflowError, [1, 2, 3]), (KeyboardInterrupt, None):
     rows = gavyreto.export(beside.wire("orders"), program=beside.PROGRAM).only()
     with mock.patch.dict(sys.modules, pyarrow=mock.Mock()) as modules:
         modules["pyarrow"].Table.from_pandas.side_effect = failure
@@ -150,7 +150,7 @@ class Frames(unittest.TestCase):
             skip(self, "Python's module pandas isn't there: `make needs` installs it")
         command = [requirements.DEBIAN_PYTHON, "-B", "-c", LEFT]
         came = subprocess.run(command, cwd=os.path.join(ROOT, "python"), capture_output=True, text=True, check=False, **started(PROGRAM=PROGRAM))
-        self.assertEqual((came.returncode, came.stderr, came.stdout), (0, "", "ValueError\nKeyboardInterrupt\n" + "8134 1\n" * 2))
+        self.assertEqual((came.returncode, came.stderr, came.stdout), (0, "", "ValueError\nOverflowError\nKeyboardInterrupt\n" + "8134 1\n" * 2))
 
     def test_frames_of_answers(self) -> None:
         """By the cursor that `pandas.read_sql` takes, and of rows before an error."""
