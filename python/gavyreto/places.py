@@ -11,7 +11,7 @@ from collections.abc import Iterator
 from typing import NamedTuple, Union
 
 from gavyreto.commands.common import (
-    STANDARD_ERROR, STANDARD_INPUT, STANDARD_OUTPUT, STREAMS, TWO_PLACES, Stopped, are_two_places, lock, naming, needed, opened_by, write,
+    STANDARD_ERROR, STANDARD_INPUT, STANDARD_OUTPUT, STREAMS, TWO_PLACES, Stopped, are_two_places, lock_file, naming, needed, opened_by, write,
 )
 from gavyreto.program import FAILED, REFUSED
 
@@ -174,8 +174,8 @@ def created(path: str) -> int:
     """A new file in the place of one that was left. Raises `Stopped` if another command writes that."""
     with contextlib.suppress(FileNotFoundError):
         with open(path, "r+b") as left:
-            lock(path, left.fileno())
+            lock_file(path, left.fileno())
             os.remove(path)
     descriptor = os.open(path, os.O_WRONLY | os.O_CREAT | os.O_EXCL | os.O_CLOEXEC, 0o666)
-    lock(path, descriptor)
+    lock_file(path, descriptor)
     return descriptor

@@ -15,7 +15,7 @@ import tempfile
 import tracemalloc
 import unittest
 from decimal import Decimal
-from typing import Any, Optional
+from typing import IO, Any, Optional, cast
 from unittest import mock
 
 import gavyreto
@@ -24,7 +24,7 @@ from gavyreto.adapting import Adapter, variant_text
 from gavyreto.columns import postgresql_type, sqlite_type
 from gavyreto.payload import Ended, Payload, descriptions
 from tests import test_readings
-from tests.beside import PROGRAM, Live, answered, need, responses, served, serving, started, wire
+from tests.beside import PROGRAM, Live, answered, need, responses, served, serving, started, wait_for, wire
 
 from plain import reader  # isort: skip  the tools are on the path after it
 
@@ -381,6 +381,16 @@ class Commands(Live):
                     self.assert_ends(self.run_command(command, data=data), 4, b"", f"standard input is {line}")
             self.assertEqual(self.run_command("adapt", "-o", "out", "it").returncode, 4)
             self.assertFalse(os.path.exists(self.path("out")))
+
+    def test_an_output_that_another_command_writes(self) -> None:
+        with subprocess.Popen([sys.executable, "-m", "gavyreto", "adapt", "-o", "out"], cwd=self.folder, **started() | {"stdin": subprocess.PIPE}) as first:
+            given = cast(IO[bytes], first.stdin)
+            given.write(wire("float")[:20])
+            given.flush()
+            wait_for(lambda: os.path.exists(self.path("out")))
+            wait_for(lambda: self.run_command("adapt", "-o", "out", "orders.tds").stderr == b"out: another command writes there\n")
+            given.write(wire("float")[20:])
+        self.assertEqual((first.returncode, self.text("out")), (0, adapted(wire("float"))))
 
     def test_an_input_is_no_output(self) -> None:
         with open(self.path("x"), "wb") as file:

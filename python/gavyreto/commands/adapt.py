@@ -11,10 +11,11 @@ from __future__ import annotations
 
 import argparse
 import os
+import stat
 from functools import partial
 
 from gavyreto.adapting import Adapter
-from gavyreto.commands.common import STANDARD_ERROR, STANDARD_OUTPUT, STREAMS, Stopped, is_one_file, named, naming, needed, open_response, opened_by, parser_of, write
+from gavyreto.commands.common import STANDARD_ERROR, STANDARD_OUTPUT, STREAMS, Stopped, is_one_file, lock_file, named, naming, needed, open_response, opened_by, parser_of, write
 from gavyreto.program import BAD_INPUT, CHARSETS, REFUSED
 
 
@@ -37,7 +38,10 @@ def adapt(asked: argparse.Namespace) -> None:
         if asked.output and opened is None and is_one_file(asked.output, STANDARD_ERROR):
             raise Stopped(f"{name}: the lines are written to it", REFUSED)
         with naming(name):
-            target = os.open(asked.output, os.O_WRONLY | os.O_CREAT | os.O_TRUNC, 0o666) if opened is None else opened
+            target = os.open(asked.output, os.O_WRONLY | os.O_CREAT, 0o666) if opened is None else opened
+            if opened is None and stat.S_ISREG(os.fstat(target).st_mode):
+                lock_file(name, target)
+                os.ftruncate(target, 0)
         is_more = True
         while is_more:
             Adapter(source.read, partial(write, name, target), asked.charset).run()

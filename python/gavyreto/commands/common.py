@@ -174,11 +174,17 @@ def folder_of_texts(path: str) -> Iterator[None]:
 
 
 def lock(path: str, descriptor: int) -> None:
-    """Keeps a folder or a file for this command. Raises `Stopped` if another one has it."""
+    """Keeps a folder for this command. Raises `Stopped` if another one has it."""
     try:
         fcntl.flock(descriptor, fcntl.LOCK_EX | fcntl.LOCK_NB)
     except BlockingIOError:
         raise Stopped(f"{path}: another command writes there", REFUSED) from None
+
+
+def lock_file(path: str, descriptor: int) -> None:
+    """The same of a file, where its file system has locks."""
+    with contextlib.suppress(OSError):
+        lock(path, descriptor)
 
 
 # Standard input, output and error.
