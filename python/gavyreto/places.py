@@ -172,10 +172,9 @@ class Opened:
 
 def created(path: str) -> int:
     """A new file in the place of one that was left. Raises `Stopped` if another command writes that."""
-    with contextlib.suppress(FileNotFoundError):
-        with open(path, "r+b") as left:
-            lock_file(path, left.fileno())
-            os.remove(path)
+    with contextlib.suppress(OSError), open(path, "rb") as left:
+        lock_file(path, left.fileno())
+        os.remove(path)
     descriptor = os.open(path, os.O_WRONLY | os.O_CREAT | os.O_EXCL | os.O_CLOEXEC, 0o666)
     lock_file(path, descriptor)
     return descriptor

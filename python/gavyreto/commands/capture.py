@@ -149,13 +149,12 @@ def rename(path: str, target: str) -> None:
     """Gives a file another name, which nothing has. Raises FileExistsError if something has it."""
     try:
         os.link(path, target)
+        os.remove(path)
     except OSError as failure:
         if failure.errno not in WITHOUT_LINKS:
             raise
         os.close(os.open(target, os.O_WRONLY | os.O_CREAT | os.O_EXCL))
         os.replace(path, target)
-    else:
-        os.remove(path)
 
 
 def moment_of(time: int) -> Optional[str]:
