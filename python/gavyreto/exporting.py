@@ -13,7 +13,7 @@ from gavyreto import program, tds
 from gavyreto.adapting import hand_over
 from gavyreto.commands.common import cause_of
 from gavyreto.outcomes import waiting_in
-from gavyreto.program import BAD_INPUT, BLOCK, DONE, FAILED, SERVER_ERROR, Output, OutputFailed, Program
+from gavyreto.program import BAD_INPUT, BLOCK, CHANGED, DONE, FAILED, SERVER_ERROR, Output, OutputFailed, Program
 
 DIGITS = 16  # of the digest of a program that are kept
 MORE = "more is behind the response, which isn't read: gavyreto capture reads all that a server sent"
@@ -77,7 +77,7 @@ def _exported(file: str, waiting: str, command: list[str], adapts: Optional[str]
         if ending.status not in (DONE, SERVER_ERROR, BAD_INPUT):
             return Outcome(file, ending.status, ending.line)
         if stamp_of(os.fstat(source)) != stamp_of(found):
-            return Outcome(file, FAILED, f"{file}: it changed while it was read")
+            return Outcome(file, FAILED, f"{file}: {CHANGED}")
         if version_of(command[0]) != version:
             return Outcome(file, FAILED, f"{command[0]}: it changed while it ran")
         if ending.status != BAD_INPUT and left:

@@ -30,6 +30,7 @@ F_SETPIPE_SZ, ROOM_OF_PIPE = 1031, 1 << 20  # of Linux
 ROOM_OF_FEW = 4096  # bytes that each pipe has room for at once
 VERSION = re.compile(rf"({PROGRAM} \d+(?:\.\d+)*)(?: \(sources [0-9a-f]+\))?", re.ASCII)
 BLOCK = 1 << 18  # bytes that are moved at once, at most
+CHANGED = "it changed while it was read"
 PATIENCE = 5.0  # seconds in which a program ends whose input is over, or text comes that its lines count
 BEGINNING = b"\x04"  # of a packet of an answer
 
@@ -155,11 +156,10 @@ def write_all(descriptor: int, data: bytes) -> None:
         left = left[os.write(descriptor, left):]
 
 
-def check_unchanged(before: os.stat_result, descriptor: int) -> None:
-    """Raises OSError if a file was written to since."""
+def has_changed(before: os.stat_result, descriptor: int) -> bool:
+    """Whether a file was written to since."""
     found = os.fstat(descriptor)
-    if stat.S_ISREG(found.st_mode) and (found.st_size, found.st_mtime_ns) != (before.st_size, before.st_mtime_ns):
-        raise OSError(errno.EBUSY, "it changed while it was read")
+    return stat.S_ISREG(found.st_mode) and (found.st_size, found.st_mtime_ns) != (before.st_size, before.st_mtime_ns)
 
 
 def command_of(program: str, packet_size: int, column_room: int, max_wire: int, charset: str) -> list[str]:

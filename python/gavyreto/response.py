@@ -1,6 +1,7 @@
 """Result sets of a response, while the program reads it."""
 from __future__ import annotations
 
+import errno
 import io
 import os
 import socket
@@ -12,7 +13,7 @@ from typing import Any, Callable, Optional, Protocol, Union, cast
 from gavyreto import tds
 from gavyreto.adapting import Adapter
 from gavyreto.errors import BadAnswer, Error, Fault, ProgramFailed, Report, ServerError, UnfinishedAnswer
-from gavyreto.program import BLOCK, CHARSETS, COLUMN_ROOM, MAX_WIRE, OF_SIGNAL, PACKET_SIZE, PROGRAM, Ending, Program, Write, check_unchanged, command_of
+from gavyreto.program import BLOCK, CHANGED, CHARSETS, COLUMN_ROOM, MAX_WIRE, OF_SIGNAL, PACKET_SIZE, PROGRAM, Ending, Program, Write, command_of, has_changed
 from gavyreto.payload import Descriptions, Ended, LateDescriptions, Payload, Read
 from gavyreto.text import Sets
 from gavyreto.values import Dates, check_dates
@@ -50,7 +51,8 @@ class HeldFile:
         while not framing.is_over and (block := os.pread(self.descriptor, BLOCK, at)):
             framing.take(block)
             at += len(block)
-        check_unchanged(self._before, self.descriptor)
+        if has_changed(self._before, self.descriptor):
+            raise OSError(errno.EBUSY, CHANGED)
         return framing.tail
 
     def close(self) -> None:

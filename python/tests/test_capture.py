@@ -256,6 +256,26 @@ class Captures(unittest.TestCase):
             came = subprocess.run(words, cwd=self.folder, capture_output=True, check=False, **started())
             self.assertEqual((came.returncode, self.texts()), (status, texts), came.stderr)
 
+    def test_a_capture_that_is_still_written(self) -> None:
+        """What is there is read, and that it changed is told: by the line of the table that comes first it is under way."""
+        program = (
+            "import runpy\n"
+            "from gavyreto.commands import capture\n"
+            "put = capture.put\n"
+            "def growing(text):\n"
+            "    capture.put = put\n"
+            "    put(text)\n"
+            "    with open('capture', 'ab') as file:\n"
+            "        file.write(bytes(8))\n"
+            "capture.put = growing\n"
+            "runpy.run_module('gavyreto', run_name='__main__', alter_sys=True)\n")
+        self.captured(conversation().frames)
+        whole = self.texts()
+        words = [sys.executable, "-c", program, "capture", "--program", PROGRAM, "capture", "out"]
+        came = subprocess.run(words, cwd=self.folder, capture_output=True, check=False, **started())
+        lines = came.stderr.decode().splitlines()
+        self.assertEqual((came.returncode, self.texts(), lines[0], lines[-1].split(":")[0]), (4, whole, "capture: it changed while it was read", "frames 22"))
+
     def test_files_that_are_compressed_or_come_by_a_pipe(self) -> None:
         made = captures.Capture()
         made.frames = conversation().frames

@@ -40,7 +40,7 @@ from gavyreto.capturing.desk import Answer, Sides
 from gavyreto.capturing.keeping import Kept, Room
 from gavyreto.capturing.messages import is_header
 from gavyreto.commands.common import (
-    SIGNALS, Input, Progress, Stopped, add_options_of_program, cause_of, check_input, checked_program, command_for, folder_of_texts, line, number_in, parser_of, put, tell,
+    SIGNALS, Changed, Input, Progress, Stopped, add_options_of_program, cause_of, check_input, checked_program, command_for, folder_of_texts, line, number_in, parser_of, put, tell,
 )
 from gavyreto.payload import Ended
 from gavyreto.program import BAD_INPUT, FAILED, REFUSED, SERVER_ERROR, Ending, OutputFailed
@@ -217,7 +217,7 @@ def take_capture(source: files.Source, export: Export, accounts: Accounts, ports
     try:
         for frame in shown(files.frames(source, drops), file, accounts):
             connections.take(frame)
-    except files.CutShort as why:
+    except (files.CutShort, Changed) as why:
         cut = str(why)
     connections.finish()
     for kinds, status in (accounts.unread, BAD_INPUT), (accounts.foreign, 0):

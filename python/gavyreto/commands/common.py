@@ -57,6 +57,10 @@ class Stopped(Exception):
         self.status = status
 
 
+class Changed(Stopped):
+    """What is read changed meanwhile."""
+
+
 # Lines.
 
 def say(text: str) -> None:
@@ -262,8 +266,8 @@ class Input(io.FileIO):
             count: Optional[int] = super().readinto(room)
             if count is None:
                 raise BlockingIOError(errno.EAGAIN, "nothing is there yet, and it doesn't block")
-            if not count and len(room):
-                program.check_unchanged(self._before, self.fileno())
+            if not count and len(room) and program.has_changed(self._before, self.fileno()):
+                raise Changed(f"{self.shown}: {program.CHANGED}", FAILED)
         return count
 
 
