@@ -26,6 +26,7 @@ from gavyreto import outcomes
 from gavyreto.commands.common import STANDARD_ERROR, STREAMS, Stopped, add_options_of_program, cause_of, checked_program, command_for, folder_of_texts, named, number_in, parser_of
 from gavyreto.exporting import Outcome, Stamp, end_all, export_file, stamp_of, version_of
 from gavyreto.outcomes import PARTIAL, TABLE, TEXT, Progress, remove_unfinished, summed
+from gavyreto.places import stats_of
 from gavyreto.program import DONE, FAILED, INTERRUPTED, REFUSED, SERVER_ERROR
 
 SECONDS_OF_SCHEDULER = 30  # the longest that it may be silent, or that its file is waited for
@@ -56,15 +57,15 @@ class Table(outcomes.Table[Record]):
     def check(self, files: list[str]) -> None:
         """Refuses files whose text has the name of the table, or of a text of another file."""
         of = {record.text: record.name for record in self.records.values() if record.text}
-        inputs = {inode for inode in map(_inode_of, files) if inode}
-        if _inode_of(STANDARD_ERROR) in inputs:
+        inputs = _inodes_of(*files)
+        if _inodes_of(STANDARD_ERROR) & inputs:
             raise Stopped(f"{STREAMS[STANDARD_ERROR]}: a response is read from it", REFUSED)
         for file in files:
             name = os.path.basename(file)
             if name + TEXT == TABLE:
                 raise Stopped(f"{file}: its text would have the name of the table, {TABLE}: give the file another name", REFUSED)
             for text in (name + TEXT, name + PARTIAL):
-                if _inode_of(os.path.join(self._folder, text)) in inputs:
+                if _inodes_of(os.path.join(self._folder, text)) & inputs:
                     raise Stopped(f"{text} would be the text of {file}, and is a file to export: name another folder", REFUSED)
                 if of.get(text, file) != file and os.path.exists(os.path.join(self._folder, text)):
                     raise Stopped(f"{text} is the text of {of[text]}: export {file} to another folder", REFUSED)
@@ -86,13 +87,9 @@ class Table(outcomes.Table[Record]):
         return self.add(record, os.path.basename(it.file), it.waiting)
 
 
-def _inode_of(path: Union[str, int]) -> Optional[tuple[int, int]]:
-    """What a file is, whatever names it has; None if there is none."""
-    try:
-        found = os.stat(path)
-    except OSError:
-        return None
-    return found.st_dev, found.st_ino
+def _inodes_of(*paths: Union[str, int]) -> set[tuple[int, int]]:
+    """What files are, whatever names they have, as far as they are there."""
+    return {(it.st_dev, it.st_ino) for it in stats_of(*paths)}
 
 
 def files_of(asked: argparse.Namespace) -> list[str]:
