@@ -261,11 +261,11 @@ def case(seed: int) -> Case:
     if "cut file" in happening:
         data = data[:len(data) - numbers.randint(1, min(len(frames[-1]), cut))]  # within the last frame
     verdicts = [verdict(it, segments) for it, segments in there]
-    if "cut file" in happening or max(ends) > cut:
+    if "cut file" in happening or max(ends, default=0) > cut:
         verdicts.append(False)
     if "port reuse" in happening and any(is_late(segments) for _, segments in there):
         verdicts.append(None)
-    is_other = "equal numbers" in happening and any(it.data for it in again)
+    is_other = "equal numbers" in happening and any(len(it.data) > 1 or it.data and it.flags & PUSH for it in again)
     is_whole = False if is_other else None if None in verdicts else all(verdicts)
     answers = [answer for it, segments in there for answer in _answers(it, segments)]
     names = {answer: name for it in made for answer, name in zip(it.answers, it.names)}
