@@ -81,6 +81,14 @@ class Arguments(Live):
             with self.subTest(text=text), self.assertRaises(argparse.ArgumentTypeError):
                 server(text)
 
+    def test_names_that_stand_twice(self) -> None:
+        """Nothing would be read or written by the first of them."""
+        for words, name in (
+            ("-o rows -o other 'SELECT 1'", "-o"), ("-o rows --output=- 'SELECT 1'", "--output"), ("--tables a --tables b -o out", "--tables"),
+            ("--packets a --packets=a 'SELECT 1'", "--packets"), ("--access-token-file a --access-token-file a 'SELECT 1'", "--access-token-file"),
+        ):
+            self.refused(words, f"{name} stands twice")
+
     def test_statements_in_utf_16(self) -> None:
         for encoding in ("utf-16", "utf-16-le"):
             with open(self.path("wide.sql"), "wb") as file:

@@ -15,13 +15,13 @@ import stat
 from functools import partial
 
 from gavyreto.adapting import Adapter
-from gavyreto.commands.common import STANDARD_ERROR, STANDARD_OUTPUT, STREAMS, Stopped, is_one_file, lock_file, named, naming, needed, open_response, opened_by, parser_of, write
+from gavyreto.commands.common import STANDARD_ERROR, STANDARD_OUTPUT, STREAMS, Once, Stopped, is_one_file, lock_file, named, naming, needed, open_response, opened_by, parser_of, write
 from gavyreto.program import BAD_INPUT, CHARSETS, REFUSED
 
 
 def arguments(words: list[str]) -> argparse.Namespace:
     parser = parser_of("adapt", __doc__)
-    parser.add_argument("-o", "--output", metavar="FILE", type=named, help="file to write (default: standard output)")
+    parser.add_argument("-o", "--output", metavar="FILE", type=named, action=Once, help="file to write (default: standard output)")
     parser.add_argument("--charset", choices=CHARSETS, default=CHARSETS[0], help="character set of char and varchar within a sql_variant")
     parser.add_argument("file", metavar="FILE", nargs="?", default="-", help="the response (default, or -: standard input)")
     return parser.parse_args(words)

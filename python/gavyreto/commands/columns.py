@@ -12,7 +12,7 @@ import argparse
 from io import BufferedReader
 
 from gavyreto.columns import TABLES, Column, create_table
-from gavyreto.commands.common import STANDARD_OUTPUT, Stopped, line, named, needed, open_response, parser_of, put
+from gavyreto.commands.common import STANDARD_OUTPUT, Once, Stopped, line, named, needed, open_response, parser_of, put
 from gavyreto.payload import Payload, descriptions
 from gavyreto.program import BAD_INPUT, REFUSED
 
@@ -22,7 +22,7 @@ HEADER = ("set", "name", "type", "length", "precision", "scale", "nullable")
 def arguments(words: list[str]) -> argparse.Namespace:
     parser = parser_of("columns", __doc__)
     parser.add_argument("--as", dest="form", choices=["csv", *TABLES], default="csv", help="form of the output (default: csv)")
-    parser.add_argument("--table", metavar="NAME", type=named, help="name of the table (default: response), or SCHEMA.NAME; {} is the number of the set, from 1")
+    parser.add_argument("--table", metavar="NAME", type=named, action=Once, help="name of the table (default: response), or SCHEMA.NAME; {} is the number of the set, from 1")
     parser.add_argument("file", metavar="FILE", nargs="?", default="-", help="the response (default, or -: standard input)")
     return parser.parse_args(words)
 

@@ -357,6 +357,15 @@ class Parser(argparse.ArgumentParser):
         return asked
 
 
+class Once(argparse.Action):
+    """Stores a name, and refuses a second one, in whose place nothing would be read or written."""
+
+    def __call__(self, parser: argparse.ArgumentParser, namespace: argparse.Namespace, values: object, option_string: Optional[str] = None) -> None:
+        if getattr(namespace, self.dest) is not None:
+            parser.error(f"{option_string} stands twice")
+        setattr(namespace, self.dest, values)
+
+
 def parser_of(command: str, about: Optional[str], *, add_help: bool = True) -> argparse.ArgumentParser:
     """The parser of a command's arguments; help begins with its module's docstring."""
     return Parser(prog=f"gavyreto {command}", description=about, formatter_class=Help, add_help=add_help, allow_abbrev=False)

@@ -31,7 +31,7 @@ from gavyreto import connection, program, tds
 from gavyreto.asking import Asking, Interrupt
 from gavyreto.commands import common
 from gavyreto.commands.common import (
-    STANDARD_INPUT, STANDARD_OUTPUT, Input, Stopped, add_options_of_program, cause_of, check_input, checked_program, is_one_file, named, naming, needed, number_in, parser_of,
+    STANDARD_INPUT, STANDARD_OUTPUT, Input, Once, Stopped, add_options_of_program, cause_of, check_input, checked_program, is_one_file, named, naming, needed, number_in, parser_of,
     tell_all,
 )
 from gavyreto.connection import Secret, Session
@@ -309,19 +309,19 @@ def add_login(add: Callable[..., object]) -> None:
         help="name of the server, as in its certificate, or its address; or HOST\\INSTANCE, or mssql://USER@HOST:PORT/DATABASE?OPTION=VALUE (default: SQLCMDSERVER)")
     add("-U", "--user", metavar="NAME", type=named, help="login name (default: SQLCMDUSER)")
     add("-E", "--integrated", action="store_true", help="login by Kerberos, as the user of the ticket; needs Debian's python3-gssapi")
-    add("--access-token-file", metavar="FILE", type=named, help=f"login by the access token of Entra ID in this file (default: the variable {OF_TOKEN})")
+    add("--access-token-file", metavar="FILE", type=named, action=Once, help=f"login by the access token of Entra ID in this file (default: the variable {OF_TOKEN})")
     add("-d", "--database", metavar="NAME", type=named, default=os.environ.get("SQLCMDDBNAME") or None, help="database to use (default: SQLCMDDBNAME, else the user's)")
 
 
 def add_outputs(add: Callable[..., object]) -> None:
     """The options of statements, and of what is written."""
     add("-i", "--input", metavar="FILE", type=named, action="append", help="file of statements, in UTF-8; repeat it for several; - is standard input")
-    add("-o", "--output", metavar="FILE", type=named, help="file to write (default: standard output, as -); {} is the number of the statement, from 1")
-    add("--tables", metavar="FILE", type=named, help="on each line a name, then a statement or a table; each answer gets the file NAME.csv in the folder of -o")
+    add("-o", "--output", metavar="FILE", type=named, action=Once, help="file to write (default: standard output, as -); {} is the number of the statement, from 1")
+    add("--tables", metavar="FILE", type=named, action=Once, help="on each line a name, then a statement or a table; each answer gets the file NAME.csv in the folder of -o")
     add("-j", "--jobs", metavar="N", type=number_in(1, 1024), default=1, help="with --tables, the connections (default: 1)")
     add("--retries", metavar="N", type=number_in(0, 1000), default=0,
         help="with --tables, how often a statement is sent again whose connection broke (default: 0)")
-    add("--packets", metavar="FILE", type=named, help="keep the packets of each answer in a file, as they came; {} is the number of the statement")
+    add("--packets", metavar="FILE", type=named, action=Once, help="keep the packets of each answer in a file, as they came; {} is the number of the statement")
     add("--adapt", action="store_true", help="rewrite columns that tds_replay refuses, as the command adapt does; packets are kept as they came")
 
 
