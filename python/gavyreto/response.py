@@ -51,7 +51,7 @@ class HeldFile:
         while not framing.is_over and (block := os.pread(self.descriptor, BLOCK, at)):
             framing.take(block)
             at += len(block)
-        if has_changed(self._before, self.descriptor):
+        if has_changed(self._before, self.descriptor) and os.fstat(self.descriptor).st_size <= self._before.st_size:  # others may follow it
             raise OSError(errno.EBUSY, CHANGED)
         return framing.tail
 

@@ -226,8 +226,9 @@ class Columns(unittest.TestCase):
                 self.assertEqual([[it.type for it in one.columns or []] for one in sets], [["int", "nvarchar(40)"], ["decimal(9,2)"], ["int"]])
 
     def test_a_file_that_changes(self) -> None:
-        """Its types and its end are read again: after a change they may be those of another response, which the rows aren't of."""
-        for flags, data in (os.O_APPEND, b"\4"), (0, wire("orders")), (os.O_TRUNC, wire("orders")):
+        """Its types and its end are read again: after a change they may be those of another response, which the rows aren't of; not if others
+        are appended to it."""
+        for flags, data in (0, wire("orders")), (os.O_TRUNC, wire("orders")), (os.O_APPEND, wire("error")):
             with tempfile.NamedTemporaryFile() as file:
                 self.write_to(file.name, wire("orders"))
                 time.sleep(0.02)  # which the time of a change tells apart
@@ -236,6 +237,9 @@ class Columns(unittest.TestCase):
                     changed = os.open(file.name, os.O_WRONLY | flags)
                     os.write(changed, data)
                     os.close(changed)
+                    if flags & os.O_APPEND:
+                        self.assertEqual(len(rows.fetchall()), 3)
+                        continue
                     self.assertRaisesRegex(OSError, "it changed while it was read", rows.fetchall)
                     self.assertRaisesRegex(gavyreto.Interrupted, "OSError", rows.fetchall)
 
