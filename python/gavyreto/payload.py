@@ -5,7 +5,7 @@ from __future__ import annotations
 
 import threading
 from itertools import chain, compress, islice
-from typing import Callable, Iterator, NamedTuple, Optional, TypeVar
+from typing import Callable, Iterator, Optional, TypeVar
 
 from gavyreto import columns, tds
 from gavyreto.columns import COUNTED, FIXED, LONG, Column, Described, Type
@@ -80,30 +80,6 @@ class Payload:
 
 
 # Tokens, rows and cells.
-
-class Found(NamedTuple):
-    """A token: its byte; of a COLMETADATA the columns, of a row those whose values follow."""
-
-    byte: int
-    columns: Optional[list[Described]] = None
-
-
-def tokens(payload: Payload) -> Iterator[Found]:
-    """The tokens of a response. Whoever takes a row reads its cells before the next token; other tokens are passed over."""
-    described: Optional[list[Described]] = None
-    while payload.has_more():
-        byte = payload.number(1)
-        if byte == Token.COLUMNS:
-            described = columns.read_description(payload.need)
-            yield Found(byte, described)
-        elif byte in (ROW, NBCROW):
-            bitmap = payload.need(bytes_of_bitmap(byte, described))
-            yield Found(byte, present(bitmap, described or []))
-        else:
-            yield Found(byte)
-            for _ in rest_of(payload, byte):
-                pass
-
 
 def bytes_of_bitmap(byte: int, described: Optional[list[Described]]) -> int:
     """How many bytes a row begins with that say which of its values are NULL. Raises ValueError if there are no columns."""
@@ -182,13 +158,20 @@ def _chunks(payload: Payload) -> Iterator[bytes]:
 
 def descriptions(payload: Payload) -> Iterator[list[Described]]:
     """The descriptions of a response, each with columns, in order."""
+    described: Optional[list[Described]] = None
     ways: list[int] = []
-    for token in tokens(payload):
-        if token.byte == Token.COLUMNS:
-            ways = ways_over(token.columns or [])
-            yield from [token.columns] if token.columns else []
-        elif token.columns:
-            for _ in chain.from_iterable(cell(payload, column.type) for column in token.columns):
+    while payload.has_more():
+        byte = payload.number(1)
+        if byte == Token.COLUMNS:
+            described = columns.read_description(payload.need)
+            ways = ways_over(described or [])
+            yield from [described] if described else []
+        elif byte in (ROW, NBCROW):
+            bitmap = payload.need(bytes_of_bitmap(byte, described))
+            for _ in chain.from_iterable(cell(payload, column.type) for column in present(bitmap, described or [])):
+                pass
+        else:
+            for _ in rest_of(payload, byte):
                 pass
         payload.at = after_rows(payload.data, payload.at, ways)
 
