@@ -37,13 +37,9 @@ class Gathered:
             self._parts.append(_whole_numbers(values, self._kind))
         else:
             self._parts.append(_objects(values))
-            if not self._is_known:
-                self._look_at(values)
-
-    def _look_at(self, values: list[Value]) -> None:
-        self._types |= set(map(type, values)) - {type(None)}
-        if self._types == {int}:
-            self._greatest = max(self._greatest, *(abs(value) for value in values if isinstance(value, int)), 0)
+            self._types |= set() if self._is_known else set(map(type, values)) - {type(None)}
+            if self._types == {int}:
+                self._greatest = max(self._greatest, *(abs(value) for value in values if isinstance(value, int)), 0)
 
     def values(self) -> list[Value]:
         """The values again, with the types that they had."""

@@ -137,8 +137,10 @@ class Response(Sets):
         if isinstance(said, Fault):
             said.rest = rest
         is_all_read = isinstance(said, (Report, ServerError)) or isinstance(said, Fault) and said.name == "InputEnded"
-        if self._feeding and (is_all_read or said is None):
-            self._judge_feeding(self._feeding, is_all_read)
+        if self._feeding and is_all_read:
+            self._feeding.join()
+        if self._feeding and self._feeding.error and (is_all_read or said is None):
+            self._raise(self._feeding.error)
         self.is_whole = isinstance(said, (Report, ServerError))
         if isinstance(said, Error):
             self._raise(said)
@@ -151,13 +153,6 @@ class Response(Sets):
     def _unfinished(self) -> Optional[str]:
         """What there is to say of an answer that the server ended as cancelled or failed."""
         return tds.unfinished(bytes(self._tail())) if self._tail else None
-
-    def _judge_feeding(self, feeding: Feeding, is_all_read: bool) -> None:
-        """Raises what ended the feeding of the program before the response was over."""
-        if is_all_read:
-            feeding.join()
-        if feeding.error:
-            self._raise(feeding.error)
 
     def _is_text_of(self, report: Report) -> bool:
         """Whether all of the text was read as the program counts it."""

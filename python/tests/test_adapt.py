@@ -383,7 +383,9 @@ class Commands(Live):
             self.assertFalse(os.path.exists(self.path("out")))
 
     def test_an_output_that_another_command_writes(self) -> None:
-        with subprocess.Popen([sys.executable, "-m", "gavyreto", "adapt", "-o", "out"], cwd=self.folder, **started() | {"stdin": subprocess.PIPE}) as first:
+        own = started()
+        own["stdin"] = subprocess.PIPE
+        with subprocess.Popen([sys.executable, "-m", "gavyreto", "adapt", "-o", "out"], cwd=self.folder, **own) as first:
             given = cast(IO[bytes], first.stdin)
             given.write(wire("float")[:20])
             given.flush()

@@ -62,12 +62,13 @@ class Revisit:
     that were there up to where they ended, to be compared with those that came first."""
 
     def __init__(self, memory: Memory) -> None:
-        self._share = Share(memory, self._give_up)
+        self._share = Share(memory, self.close)
         self._streams = Stream(self._share), Stream(self._share)
         self._has_syn = [False, False]
         self._is_given_up = False
 
-    def _give_up(self) -> None:
+    def close(self) -> None:
+        """Lets go what it holds, and takes nothing more."""
         self._is_given_up = True
         for stream in self._streams:
             stream.close()
@@ -88,7 +89,7 @@ class Revisit:
             stream.show(piece.end())
             stream.settle(stream.place)
             if stream.is_past_window():
-                self._give_up()
+                self.close()
 
     def has_begun(self, is_client: bool) -> bool:
         """Whether bytes of a side have come."""
@@ -99,10 +100,6 @@ class Revisit:
         two sides that both began again with a SYN, aren't known to be the same."""
         found = [_is_same(*it) for it in zip(self._streams, (client, server))]
         return False in found or all(self._has_syn) and None in found and all(stream.delivered for stream in self._streams)
-
-    def close(self) -> None:
-        """Lets go what it holds."""
-        self._give_up()
 
 
 def _is_same(again: Stream, first: Side) -> Optional[bool]:

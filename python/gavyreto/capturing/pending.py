@@ -5,20 +5,13 @@ number of a request says at which byte of the server its answer begins, and that
 answer belongs to a request by its place, whatever became of other requests."""
 from __future__ import annotations
 
-from typing import Callable, NamedTuple, Optional
+from typing import Callable, Optional
 
 from gavyreto.capturing.accounts import Accounts
 from gavyreto.capturing.messages import Asked, Request
 
 HANDSHAKE = (Asked.GREETING, Asked.LOGIN)
 MOST_PENDING = 1024
-
-
-class Hole(NamedTuple):
-    """Bytes of a client that are lacking: the place of the first, and that after the last."""
-
-    start: int
-    end: int
 
 
 class Pending:
@@ -28,7 +21,7 @@ class Pending:
         self._accounts, self._tell = accounts, tell
         self._requests: list[Request] = []
         self._acknowledged = 0  # attentions that an answer has acknowledged before they came
-        self._hole = Hole(0, 0)  # the last bytes of the client that are lacking
+        self._hole = (0, 0)  # the last bytes of the client that are lacking: the place of the first, and that after them
 
     def __bool__(self) -> bool:
         return bool(self._requests)
@@ -54,16 +47,17 @@ class Pending:
 
     def lose(self, start: int, end: int) -> None:
         """Bytes of the client are lacking, between two places."""
-        self._hole = Hole(start, end)
+        self._hole = (start, end)
 
     def find(self, place: int, acknowledged: int) -> Optional[Request]:
         """What the answer at a place answers: the last request that was sent when the client had all before that place, and that the
         server had begun to read. Only what acknowledges an attention answers it; so it is taken only if there is nothing else."""
         found: Optional[Request] = None
+        start, end = self._hole
         for request in self._requests:
             if request.acknowledged > place or request.start >= acknowledged:
                 break
-            is_before_hole = request.is_whole and request.end <= self._hole.start and self._hole.end <= acknowledged
+            is_before_hole = request.is_whole and request.end <= start and end <= acknowledged
             if not is_before_hole and (request.kind is not Asked.ATTENTION or found is None):
                 found = request
         return found

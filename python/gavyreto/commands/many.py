@@ -205,14 +205,8 @@ class Cluster:
             return Outcome(file, FAILED, f"the scheduler {self._where} was lost")
 
 
-def export_all(asked: argparse.Namespace) -> int:
-    """Exports what isn't done, and returns the greatest status."""
-    files = files_of(asked)
-    with folder_of_texts(asked.out):
-        return export_left(files, asked)
-
-
 def export_left(files: list[str], asked: argparse.Namespace) -> int:
+    """Exports what isn't done, and returns the greatest status."""
     command = command_for(asked)
     place: Union[Here, Cluster] = Cluster(asked.scheduler) if asked.scheduler else Here(asked.jobs)
     with place:
@@ -252,7 +246,9 @@ def run(words: list[str]) -> int:
     asked = arguments(words)
     asked.program = asked.program if asked.scheduler else checked_program(asked.program)
     try:
-        return export_all(asked)
+        files = files_of(asked)
+        with folder_of_texts(asked.out):
+            return export_left(files, asked)
     except ImportError:
         raise Stopped("a cluster needs Python's module distributed: Debian's package python3-distributed", REFUSED) from None
     except KeyboardInterrupt:
