@@ -12,7 +12,7 @@ from typing import Any, Collection, Generic, Optional, Sequence, TypeVar
 from unicodedata import normalize
 
 from gavyreto.commands import common
-from gavyreto.commands.common import STANDARD_ERROR, Stopped, cause_of, is_one_file, line, tell, write
+from gavyreto.commands.common import STANDARD_ERROR, Stopped, cause_of, is_one_file, line, rename, tell, write
 from gavyreto.program import BAD_INPUT, DONE, FAILED, REFUSED, SERVER_ERROR
 from gavyreto.records import record_at
 from gavyreto.values import value_of
@@ -48,6 +48,7 @@ class Table(Generic[R]):
         self._kinds = [KINDS[str(it.type)] for it in fields(record)]
         self._header = line([of, *(it.name for it in fields(record)[1:])]).encode()
         self.records = self._read()
+        self._there = set[str]()  # names in the folder before any text
         self._descriptor = -1
 
     def _read(self) -> dict[str, R]:
@@ -96,6 +97,7 @@ class Table(Generic[R]):
         if is_one_file(out.name, os.path.join(self._folder, os.path.basename(out.name).swapcase())):
             check_apart(TABLE.removesuffix(TEXT), *names, *(os.path.basename(it) for it in self.records))
         os.replace(out.name, self._path)
+        self._there = {*os.listdir(self._folder)}
         self._descriptor = os.open(self._path, os.O_WRONLY | os.O_APPEND | os.O_CLOEXEC)
 
     def close(self) -> None:
@@ -111,10 +113,14 @@ class Table(Generic[R]):
         if waiting:
             record.text = name + (PARTIAL if record.status == BAD_INPUT else TEXT)
             try:
-                os.replace(waiting, os.path.join(self._folder, record.text))
+                target = os.path.join(self._folder, record.text)
+                if record.text in self._there:
+                    os.replace(waiting, target)
+                else:
+                    rename(waiting, target)  # what something else has put there meanwhile stays
             except OSError as failure:
                 record.status, record.line, record.text, record.written = FAILED, f"{record.text}: {cause_of(failure)}", None, 0
-        for other in {name + TEXT, name + PARTIAL} - {record.text}:
+        for other in self._there & {name + TEXT, name + PARTIAL} - {record.text}:
             with contextlib.suppress(OSError):
                 os.remove(os.path.join(self._folder, other))
         write(self._path, self._descriptor, _line_of(record))

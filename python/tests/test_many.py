@@ -335,6 +335,17 @@ class Here(Many):
                 with open(file.name, "rb") as left:
                     self.assertEqual(left.read(), data)
 
+    def test_a_foreign_file_that_comes_meanwhile(self) -> None:
+        """It stays, by whatever name of a text, and the response has failed if it would have that."""
+        self.store(1)
+        for name, line in (("000.csv", (5, "000.csv: File exists")), ("000.csv.partial", (0, "sets 1 rows 40"))):
+            putting = self.relaying(f"printf another > out/{name}")
+            self.assertEqual(self.many("--program", putting, "in", "out")[0], line[0])
+            self.assertEqual([(status, it[:len(line[1])]) for _, status, it in self.table()], [line])
+            with open(self.path("out", name), "rb") as file:
+                self.assertEqual(file.read(), b"another")
+            shutil.rmtree(self.path("out"))
+
     def test_a_table_that_is_cut_or_damaged(self) -> None:
         """Of one that is cut anywhere the whole lines count; one that lacks a byte elsewhere, or has another, keeps its lines or is none."""
         records = [many.Record(f"/in/{name}", 0, "sets 1", f"{name}.csv", 5, 1, 2, 3, 4, "--x", "p") for name in ("a", 'b"\r\nc', "d")]

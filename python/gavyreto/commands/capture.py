@@ -20,7 +20,6 @@ from __future__ import annotations
 
 import argparse
 import contextlib
-import errno
 import itertools
 import os
 import signal
@@ -40,7 +39,7 @@ from gavyreto.capturing.desk import Answer, Sides
 from gavyreto.capturing.keeping import Kept, Room
 from gavyreto.capturing.messages import is_header
 from gavyreto.commands.common import (
-    SIGNALS, Changed, Input, Progress, Stopped, add_options_of_program, cause_of, check_input, checked_program, command_for, folder_of_texts, line, number_in, parser_of, put, tell,
+    SIGNALS, Changed, Input, Progress, Stopped, add_options_of_program, cause_of, check_input, checked_program, command_for, folder_of_texts, line, number_in, parser_of, put, rename, tell,
 )
 from gavyreto.payload import Ended
 from gavyreto.program import BAD_INPUT, FAILED, REFUSED, SERVER_ERROR, Ending, OutputFailed
@@ -50,7 +49,6 @@ HEADER = ("text", "client", "server", "time", "statement", "status", "line")
 FRAMES = 256  # after so many the time is looked at
 MOST_COUNTED = 1 << 14  # connections whose number of texts is kept
 EPOCH = datetime(1970, 1, 1, tzinfo=timezone.utc)
-WITHOUT_LINKS = (errno.EPERM, errno.EOPNOTSUPP, errno.EMLINK, errno.ENOSYS)  # of a file system on which a file has one name
 
 
 @contextlib.contextmanager
@@ -143,18 +141,6 @@ class Export:
 
     def _count(self, status: int) -> None:
         self.worst = max(self.worst, status if status in (0, SERVER_ERROR, BAD_INPUT) else FAILED)
-
-
-def rename(path: str, target: str) -> None:
-    """Gives a file another name, which nothing has. Raises FileExistsError if something has it."""
-    try:
-        os.link(path, target)
-        os.remove(path)
-    except OSError as failure:
-        if failure.errno not in WITHOUT_LINKS:
-            raise
-        os.close(os.open(target, os.O_WRONLY | os.O_CREAT | os.O_EXCL))
-        os.replace(path, target)
 
 
 def moment_of(time: int) -> Optional[str]:

@@ -37,6 +37,7 @@ BEGINNINGS = {
     b"\x28\xB5\x2F\xFD": "compressed: zstd -dc gives what is in it",
     b'"': "a text that tds_replay wrote, and no packets: gavyreto.read reads it",
 }
+WITHOUT_LINKS = (errno.EPERM, errno.EOPNOTSUPP, errno.EMLINK, errno.ENOSYS)  # of a file system on which a file has one name
 NO_THREAD = "can't start new thread"  # as Python has it
 OF_TESTS = "GAVYRETO_TRACEBACK"  # a variable that lets the traceback of an unforeseen exception out
 
@@ -189,6 +190,18 @@ def lock_file(path: str, descriptor: int) -> None:
     """The same of a file, where its file system has locks."""
     with contextlib.suppress(OSError):
         lock(path, descriptor)
+
+
+def rename(path: str, target: str) -> None:
+    """Gives a file another name, which nothing has. Raises FileExistsError if something has it."""
+    try:
+        os.link(path, target)
+        os.remove(path)
+    except OSError as failure:
+        if failure.errno not in WITHOUT_LINKS:
+            raise
+        os.close(os.open(target, os.O_WRONLY | os.O_CREAT | os.O_EXCL))
+        os.replace(path, target)
 
 
 # Standard input, output and error.
