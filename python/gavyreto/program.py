@@ -269,9 +269,12 @@ class Program(contextlib.AbstractContextManager["Program"]):
             self.kill()  # before its input ends, to which it would have an answer
         if self._pipe:
             self._close_input()
-        while self._process and not is_under_way and self._notes in self._open and self._notes in self._ready(seconds=PATIENCE):
+        process = self._process
+        if process and cast("IO[bytes]", process.stderr).closed:  # what is collected with this may be closed before, and others have its numbers
+            self._open.clear()
+        while process and not is_under_way and self._notes in self._open and self._notes in self._ready(seconds=PATIENCE):
             self._take_lines()
-        process, self._process, self._open = self._process, None, set()
+        self._process, self._open = None, set()
         if process:
             process.kill()
             for pipe in (process.stdout, process.stderr):

@@ -9,6 +9,7 @@ import tempfile
 import threading
 import unittest
 from collections.abc import Iterator
+from typing import Any, cast
 from unittest import mock
 
 from gavyreto import program, tds
@@ -124,6 +125,22 @@ class Runs(unittest.TestCase):
                 self.assertTrue(all(map(os.path.samestat, before, [os.fstat(it.fileno()) for it in others])), at)
             at += 1
         self.assertGreater(at, 20)
+
+    def test_the_end_of_a_program_whose_pipes_are_closed(self) -> None:
+        """As where all of it is collected: nothing is read of what has got their numbers."""
+        run = Program(command())
+        ended(run, ORDERED)
+        process, numbers = cast(Any, run._process), (run._text, run._notes)
+        reading, writing = os.pipe()
+        for pipe, number in zip((process.stdout, process.stderr), numbers):
+            pipe.close()
+            os.dup2(reading, number)
+        os.set_blocking(reading, False)
+        os.write(writing, b"another's")
+        run.close()
+        self.assertEqual(os.read(reading, 100), b"another's")
+        for number in (reading, writing, *numbers):
+            os.close(number)
 
     def test_a_response_that_is_left(self) -> None:
         """What was handed over of one doesn't count for the next."""
