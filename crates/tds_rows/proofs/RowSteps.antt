@@ -3,6 +3,16 @@ use Rattle.tds_rows.proofs as N
 use N.{◌≡◌, ◌∙◌, ℕ, ◌+◌, ◌^◌, ◌-◌, ◌<◌, ◌≤◌, Bool, List, ◌++◌, length, ap, arith, Kind, Stop, PayloadView, SinkView, Charset, cell_start}
 use N.Paths.{At, StopsField, over}
 use Rattle.tds_cells.proofs.RowTexts.{some_bytes}
+use Rattle.std.proofs.Common.{replicate}
+use Rattle.std.proofs.lemmas.List.{get_or-replicate, length-replicate}
+use Rattle.tds_cells.specs.Formats.{Each}
+use Rattle.tds_cells.specs.declared.layout.CellFormat.{CellFormat}
+
+-- ---- formats before any is learnt
+
+-- a format that stands so many times
+pub each_all : (P : CellFormat → Type 0) (n : ℕ) (f : CellFormat) → P f → Each P (replicate n f)
+each_all P n f is k d here = grind (arith, get_or-replicate, length-replicate)
 
 -- ---- cells that are read
 

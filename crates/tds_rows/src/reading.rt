@@ -106,7 +106,7 @@ fn rows_in<'a, M: Marks, R: Read, W: Write>(
 // Reads rows so, by a row format that knows the first `N` columns at most. Its room is a local variable, and a call takes time for
 // each byte of that, so each room has a function of its own.
 #[inline(never)]
-#[tactic(auto, using(tds_cells::proofs::LaidOut::each_all))]
+#[tactic(auto, using(crate::proofs::RowSteps::each_all))]
 fn rows_by<const N: usize, M: Marks, R: Read, W: Write>(
     payload: &mut Payload<R>,
     columns: Columns<'_>,
