@@ -172,9 +172,13 @@ class Opened:
 
 def created(path: str) -> int:
     """A new file in the place of one that was left. Raises `Stopped` if another command writes that."""
-    with contextlib.suppress(OSError), open(path, "rb") as left:
-        lock_file(path, left.fileno())
-        os.remove(path)
+    with contextlib.ExitStack() as held:
+        with contextlib.suppress(OSError):
+            left = os.open(path, os.O_RDONLY | os.O_NONBLOCK | os.O_NOFOLLOW | os.O_CLOEXEC)
+            held.callback(os.close, left)
+            lock_file(path, left)
+        with contextlib.suppress(FileNotFoundError):
+            os.remove(path)
     descriptor = os.open(path, os.O_WRONLY | os.O_CREAT | os.O_EXCL | os.O_CLOEXEC, 0o666)
     lock_file(path, descriptor)
     return descriptor

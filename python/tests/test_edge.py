@@ -4,6 +4,7 @@ from __future__ import annotations
 import argparse
 import os
 import socket
+import stat
 import struct
 import subprocess
 import sys
@@ -18,6 +19,7 @@ from gavyreto import tds
 from gavyreto.where import OF_URL, Where
 from gavyreto.commands.query import arguments, server
 from gavyreto.connection import Channel
+from gavyreto.places import created
 from gavyreto.tds import PacketType
 from tests.beside import ORDERS, SECONDS, Live, answered, ask_port, command_for, listening, log_in, responses, saying_goodbye, served, started
 
@@ -151,6 +153,18 @@ class Outputs(Live):
             names = [it for it in os.listdir(self.folder) if not it.endswith(".tds")]
             self.assertEqual((came.returncode, came.stderr.decode().strip(), {it: self.text(it) for it in names}), (*ending, left))
         self.assertEqual(others, [(2, f"{waiting}: another command writes there\n".encode())])
+
+    def test_what_takes_the_name_of_a_text_under_way(self) -> None:
+        """What something else puts there, and no command keeps, makes room: a link to nothing, or a FIFO that nobody writes to."""
+        waiting = self.path("rows.partial")
+        for is_link in (True, False):
+            if is_link:
+                os.symlink("nothing", waiting)
+            else:
+                os.mkfifo(waiting)
+            os.close(created(waiting))
+            self.assertTrue(stat.S_ISREG(os.lstat(waiting).st_mode))
+            os.remove(waiting)
 
     def test_two_names_of_one_file(self) -> None:
         for words in ("'SELECT * FROM orders' 'SELECT * FROM sets'", "<<'END'\nSELECT * FROM orders\nGO\nSELECT * FROM sets\nEND\n"):
