@@ -41,11 +41,11 @@ pub counted_ahead : {n : ℕ} (column : ℕ) (kind : Kind) → fixed_length kind
     → ValueAhead kind column (ScalarLength kind) (n ∷ []) n
 counted_ahead {n} column kind is scalar some allowed =
     let next : N.cell_add (ScalarLength kind) (n ∷ []) ≡ ScalarBytes kind n = grind arith in
-    let first : N.IsNext (cell column) (ScalarLength kind) (n ∷ []) = record { some = omega arith; whole = refl; free = grind arith } in
+    let first : N.IsNext (cell column) (ScalarLength kind) (n ∷ []) = grind arith in
     record {
       spelt = rw next at (N.Spelt-one _ _ _ first);
       starts = omega (arith, ap N.start_after is);
-      counted = λ value. ap (λ o. N.length_after o (n ∷ value)) is;
+      counted = grind arith;
       some = omega arith;
       scalar = scalar;
       allowed = allowed;
@@ -102,8 +102,7 @@ module _ {kind : Kind} {column n : ℕ} {from : N.CellPart} {front : List ℕ} (
       → middle ≡ place + length front → stopped ≡ None → place' ≡ (if N.is_ok result then middle + n else middle)
       → N.MatchResult result (λ _. N.TakesInto b d before after n) (λ stop. stopped ≡ None → N.EndsInto b d before after middle n stop)
       → N.MatchResult result (λ _. N.GathersCell kind from column a d place place' after.bytes) (λ stop. StallsCell from column a d place stop)
-  value_taken _ _ (Ok u) is at _ there y =
-      rw (ap (λ s. s.bytes) y.stands ∙ ap (λ l. l ++ y.element) is) (gathers _ y.whole y.takes y.between (omega arith))
+  value_taken _ _ (Ok u) is at _ there y = grind (arith, gathers)
   value_taken _ _ (N.Err stop) is at going there y =
       let e = rw at at (y going) in
       stalls_after (cell_cut e.part e.own refl refl refl e.fewer e.ends e.stop_is)
@@ -133,7 +132,7 @@ module _ {column place : ℕ} {a b : PayloadView} where
           some = some;
           whole = whole;
           first = first;
-          takes = N.Takes-more a b ((bytes ++ element) ++ ahead) 0 _ (omega arith) (rw (sym is) at takes);
+          takes = grind arith;
           between = between;
         },
         ap Payload place_is,

@@ -4,7 +4,9 @@ use N.{◌≡◌, ◌∙◌, ℕ, ◌+◌, ◌-◌, ◌*◌, ◌<◌, ◌≤◌,
 use N.Paths.{At, over}
 use Rattle.tds_rows.specs.ChunkRuns.{ChunksWritten, RunsChunks}
 use Rattle.tds_cells.proofs.GrammarTexts.{writes_both, writes_none}
+use Rattle.tds_cells.proofs.RunSteps.{made_more}
 use Rattle.tds_cells.proofs.SeveralChunks.{next_bytes}
+use Rattle.tds_columns.proofs.ViewLaws.{all_after}
 
 module _ (c : N.Conversion) (column : ℕ) (last : Bool) (total : Option ℕ) where
   -- the length of a chunk and its data are elements
@@ -17,7 +19,7 @@ module _ (c : N.Conversion) (column : ℕ) (last : Bool) (total : Option ℕ) wh
       record {
         spelt = N.Spelt-append _ _ element _ piece _ (N.Spelt-step _ _ _ _ (omega arith) whole (grind arith) (grind arith))
             (N.LongValues.content_spelt last holds content piece n 0 (omega arith) begun (λ _ _. tt));
-        text_is = N.LongValues.text_more last holds content piece begun;
+        text_is = grind (arith, N.LongValues.text_more);
       }
 
   module _ {content kept : List ℕ} where
@@ -39,11 +41,11 @@ module _ (c : N.Conversion) (column : ℕ) (last : Bool) (total : Option ℕ) wh
         → ChunksWritten c column last total content kept' (k + n) (bytes ++ (element ++ piece)) (text ++ added)
     chunks_more {k = k} {n = n} element piece x whole is counted some fits begun kept_is added_is =
         let regroup = N.append_assoc content x.more piece in
-        let sum : length content + k ≡ length (content ++ x.more) = omega (arith, N.length-append content x.more) in
+        let sum : length content + k ≡ length (content ++ x.more) = grind (arith, N.length-append) in
         let one = chunk_writes (content ++ x.more) element piece n whole is counted some (rw sum at fits) begun in
         record {
           more = x.more ++ piece;
-          counted = omega (arith, N.length-append x.more piece);
+          counted = grind (arith, N.length-append);
           begun = rw regroup at begun;
           kept_is = rw regroup at kept_is;
           writes = rw (added_is, ← regroup) (writes_both x.writes one);
@@ -59,10 +61,7 @@ pub record HasChunk (bytes : List ℕ) (at : ℕ) (total : Option ℕ) (sum n : 
 -- the lengths of its parts
 pub chunk_lengths : {bytes : List ℕ} {at sum n : ℕ} {total : Option ℕ} → HasChunk bytes at total sum n
     → (length (take 4 (drop at bytes)) ≡ 4) × (length (take n (drop (at + 4) bytes)) ≡ n)
-chunk_lengths {bytes} {at} {sum} {n} x = (
-  N.length-take-le 4 (drop at bytes) (omega (arith, N.length-drop at bytes)),
-  N.length-take-le n (drop (at + 4) bytes) (omega (arith, N.length-drop (at + 4) bytes)),
-)
+chunk_lengths x = grind (arith, N.length-drop, N.length-take-le)
 
 -- chunks that lay together were read, as the words of their conversion say it
 pub run_at : {fit begins : List ℕ → Type 0} {rest text : List ℕ → List ℕ} {size : ℕ} {quoted : Bool} {c : N.Conversion} {total : Option ℕ}
@@ -82,14 +81,14 @@ streamed_run {p = p} {q} {r} is x run =
     let y = run x.content x.kept_is x.begun x.counted in
     record {
       content = x.content ++ y.wrote.more;
-      counted = omega (arith, N.length-append x.content y.wrote.more);
+      counted = grind (arith, N.length-append);
       begun = y.wrote.begun;
       kept_is = y.wrote.kept_is;
       path = N.Paths.path_both x.path (record {
         bytes = y.bytes;
         made = y.text;
         writes = y.wrote.writes;
-        takes = N.Takes-more q.seen r.seen y.bytes 0 (length y.bytes) (omega arith) y.takes;
+        takes = grind arith;
         puts = y.puts;
         place_is = y.place_is;
       });
@@ -109,14 +108,8 @@ pub chunk_step : {fit begins : List ℕ → Type 0} {rest text : List ℕ → Li
     → N.WritesAdded begins rest text kept kept' (take n (take (length bytes - (at + 4)) (drop (at + 4) bytes))) new added
     → made ≤ length to → 3 * n ≤ length new
     → ChunksWritten c column last total content kept' (so_far + n) (take (at + (4 + n)) bytes) (take (made + added) (take made to ++ (new ++ after)))
-chunk_step {c = c} suits column last {total} {content} {bytes = bytes} {new} {at} {made} {n = n} {added} to after counted x chunk y room fits =
-    let whole : take (length bytes - (at + 4)) (drop (at + 4) bytes) ≡ drop (at + 4) bytes =
-    N.take_all _ (drop (at + 4) bytes) (omega (arith, N.length-drop (at + 4) bytes)) in
+chunk_step suits column last {content = content} {bytes = bytes} {new} {at} {made} {n = n} {added} to after counted x chunk y room fits =
     let sizes = chunk_lengths chunk in
-    let z = N.JoinedPieces.piece_added suits (content ++ x.more) x.kept_is x.begun (rw whole at y) in
-    let within : added ≤ length new = omega (arith, added_most n _ y) in
-    let there = N.length-take-le made to room in
-    let tail : take (made + added) (take made to ++ (new ++ after)) ≡ take made to ++ take added new =
-    ap (λ k. take (k + added) (take made to ++ (new ++ after))) (N.sym there) ∙ N.take-append-add (take made to) (new ++ after) added
-    ∙ ap (λ l. take made to ++ l) (N.take-append-le added new after within) in
-    rw (next_bytes bytes at n, tail) (chunks_more c column last total _ _ x sizes.0 chunk.number sizes.1 chunk.some (rw (← counted) at chunk.fits) z.0 z.2 z.1)
+    let z = N.JoinedPieces.piece_added suits (content ++ x.more) x.kept_is x.begun (rw (all_after bytes (at + 4)) at y) in
+    let tail = made_more made added to new after room (omega (arith, added_most n _ y)) in
+    rw (next_bytes bytes at n, tail) (chunks_more _ column last _ _ _ x sizes.0 chunk.number sizes.1 chunk.some (rw (← counted) at chunk.fits) z.0 z.2 z.1)

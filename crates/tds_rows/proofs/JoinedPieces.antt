@@ -2,7 +2,7 @@
 use Rattle.tds_rows.proofs as N
 use N.{◌≡◌, ◌∙◌, ℕ, ◌+◌, ◌-◌, ◌^◌, ◌<◌, ◌≤◌, Bool, List, [], ◌++◌, length, inr, sym, ap, subst, arith, Err, Stop, Takes, IsBetween, BeginsData, Conversion}
 use N.{IsFit, conversion_rest, emit, SinkView, joins_by_name}
-use N.Paths.{At, over}
+use N.Paths.{At, over, until}
 use Rattle.tds_csv.specs.declared.joiners.JoinFault.TheVariants as join_faults
 
 module _ {fit begins : List ℕ → Type 0} {rest text : List ℕ → List ℕ} {size : ℕ} {quoted : Bool} {c : Conversion}
@@ -100,9 +100,7 @@ module _ {fit begins : List ℕ → Type 0} {rest text : List ℕ → List ℕ} 
         → N.Paths.StopsEnding c quoted last content column place h i after (N.join_stop column place fault)
     end_stops _ _ _ (N.Stopped stop) going failed x =
         grind (arith, N.common_steps, fit_whole)
-    end_stops {column = column} {place = place} _ _ _ N.Odd _ failed x =
-        inr (end_part x.0, x.0.put, ap (λ n. record { fault = N.BadText column; place = N.Payload n }) (omega arith), failed)
-    end_stops {column = column} {place = place} _ _ _ (join_faults.BadText k) _ failed x =
+    end_stops {column = column} {place = place} _ _ _ _ _ failed x =
         inr (end_part x.0, x.0.put, ap (λ n. record { fault = N.BadText column; place = N.Payload n }) (omega arith), failed)
 
 -- ---- piece after piece
@@ -172,12 +170,11 @@ module _ {c : Conversion} {content kept : List ℕ} {p q : At} {n left : ℕ} (b
     more = x.more ++ y.piece;
     fills = fills_more c content begun few delivered x.fills y;
     counted = omega (arith, N.length-append x.more y.piece);
-    kept_is = y.kept_is ∙ ap (conversion_rest c) (N.append_assoc content x.more y.piece);
+    kept_is = grind (arith, N.append_assoc);
   }
 
-  pub filled_stops : {column : ℕ} {d : N.PayloadView} {j : SinkView} {failed : Bool} {stop : Stop} → 0 < left
-      → N.StopsData c (content ++ x.more) column left q.seen d q.place q.held j failed stop
-      → N.StopsFilling c content column n p.seen d p.place p.held j failed stop
+  pub filled_stops : {column : ℕ} {e : N.Paths.Halt} → 0 < left → until (N.StopsData c (content ++ x.more) column left) q e
+      → until (N.StopsFilling c content column n) p e
   filled_stops some y =
       let rest : left ≡ n - length x.more = omega arith in
       record {

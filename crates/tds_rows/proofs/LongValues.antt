@@ -5,7 +5,7 @@ use N.{is_quoted, after_comma, SinkView, Puts, held, CellPart, PutsField, cell_s
 use N.{refl, subst, append_assoc, Some, BadText, Spelt, BeginsData, is_fit, open_field, added_text}
 use N.Words.{cell}
 use N.Numbers.{Next, short_left, chunk_end, chunk_left}
-use N.Paths.{At, Path, StopsEnding, StopsField, path_both, path_stops, over}
+use N.Paths.{At, Halt, Path, StopsEnding, StopsField, path_both, path_stops, over, until}
 use Rattle.tds_cells.proofs.SeveralChunks.{emit_none}
 use Rattle.tds_cells.proofs.RowTexts.{line_grows, after_append}
 
@@ -85,7 +85,7 @@ module _ {column : ℕ} {c : Conversion} {state : ℕ → List ℕ → CellPart}
       record {
         bytes = more;
         made = added_text c _ more;
-        writes = record { spelt = front_spelt _ more r is x.begun; text_is = rw next at (text_grown _ more (length more + r) r x.begun) };
+        writes = grind (arith, front_spelt, text_grown);
         takes = x.takes;
         puts = x.puts;
         place_is = x.place_is;
@@ -120,7 +120,7 @@ module _ {column : ℕ} {c : Conversion} {state : ℕ → List ℕ → CellPart}
                 some = omega arith;
                 whole = omega arith;
                 first = bad;
-                takes = N.Takes-more a _ ((good ++ y ∷ []) ++ ahead) 1 _ (omega (arith, N.length-append good (y ∷ []))) (rw append_assoc takes);
+                takes = grind (arith, N.Takes-more, N.length-append, append_assoc);
                 between = between;
               },
               refl,
@@ -188,8 +188,7 @@ module _ {column : ℕ} {c : Conversion} {state : ℕ → List ℕ → CellPart}
     piece_stops (inr (inr x)) = rw x.1 (piece_broken x.0)
 
   -- the content stopped in one of its pieces
-  pub filling_stops : {d : List ℕ} {m : ℕ} {p : At} {b : PayloadView} {i : SinkView} {failed : Bool} {stop : Stop}
-      → N.StopsFilling c d column m p.seen b p.place p.held i failed stop → StopsField (state m d) column last p.seen b p.place p.held i failed stop
+  pub filling_stops : {d : List ℕ} {m : ℕ} {p : At} {e : Halt} → until (N.StopsFilling c d column m) p e → until (StopsField (state m d) column last) p e
   filling_stops {m = m} x =
       let r = m - length x.front - 1 in
       let left : m - length x.front ≡ suc r = omega arith in
@@ -219,7 +218,7 @@ module _ {column : ℕ} {c : Conversion} {state : ℕ → List ℕ → CellPart}
         path_both front_path (record {
           bytes = x.takes.piece;
           made = added_text c _ _ ++ tail;
-          writes = record { spelt = last_spelt good; text_is = text_closed _ _ tail _ x.takes.begun whole };
+          writes = grind (arith, last_spelt, text_closed);
           takes = grind arith;
           puts = N.Puts-trans _ q.held _ _ _ x.takes.puts puts;
           place_is = omega arith;
@@ -292,7 +291,7 @@ module _ (column : ℕ) (c : Conversion) where
 -- ---- no content
 
 open_none : (c : Conversion) → opening (is_quoted c) ≡ open_field c []
-open_none N.HexDigits = sym refl ∙ ap (λ l. N.binary_mark ++ l) (sym (emit_none N.HexDigits))
+open_none N.HexDigits = search (N.rules, emit_none)
 open_none N.Utf16Text = ap (λ l. N.quote ∷ l) (sym (emit_none N.Utf16Text))
 open_none N.Windows1252Text = cc
 open_none N.Utf8Text = grind arith
@@ -311,7 +310,7 @@ field_puts x y = field_of (path_both x (N.Paths.path_of y.streams y.place_is))
 -- the reading stopped before any text
 pub reading_stops : {column place : ℕ} {s : CellPart} {a b : PayloadView} {h : SinkView} {failed : Bool} {stop : Stop} (last : Bool) → N.Counts h
     → failed ≡ false → N.StopsReading (cell column) s a b place s stop → StopsField s column last a b place h h failed stop
-reading_stops {s = s} _ delivered going x = record { at = s; cause = inl (x, ([], append-nil _, N.Puts-none _ delivered), going) }
+reading_stops {s = s} _ delivered going x = record { at = s; cause = grind (arith, N.Puts-none, append-nil) }
 
 module _ {column place' : ℕ} {s t : CellPart} {p : At} {b : PayloadView} (last : Bool) (x : Next column s p.seen b p.place place' t) where
   -- an element was read, and its text put
@@ -465,7 +464,7 @@ module _ {column : ℕ} {last : Bool} {c : Conversion} {total : Option ℕ} {kep
   streamed_more {r = r} is some delivered most z =
       record {
         content = _ ++ z.takes.piece;
-        counted = omega (arith, N.length-append (x.content ++ z.front) z.takes.piece, N.length-append x.content z.front);
+        counted = grind (arith, N.length-append);
         begun = grind arith;
         kept_is = cc;
         path = path_both (chunk_path is some delivered) (ends_path last (chunk_holds column c total) z [] tt (append-nil _) (N.Puts-none r.held most));

@@ -4,7 +4,7 @@ use N.{arith, ◌≡◌, ◌+◌, ◌*◌, ℕ, Bool, true, false, List, ◌∷�
 use N.{◌-◌, ◌^◌, ◌≤◌, ◌<◌, [], ◌++◌, length, ap, before, PayloadView, ⊤, ◌⊎◌, inl, inr, Takes, SinkView, Puts, Charset, Cell, Kind, Knows}
 use N.Words.{rows}
 use N.NullSteps.{NearsCells, all_put, bitmap_cut, bitmap_nears, cell_nears, cell_stops, null_breaks, null_nears, cell_path, row_ends}
-use N.Paths.{At, here, Path, RowStops, path_both, path_map, path_of, over}
+use N.Paths.{At, Halt, halt, here, Path, RowStops, path_both, path_map, path_of, over, until}
 use N.RunPuts.{run_breaks}
 use Rattle.tds_packet.specs.declared.payload.Payload.{Payload}
 use Rattle.tds_cells.proofs.RowTexts.{ends, ends_marked, coming, nulls_ahead, none_ahead}
@@ -171,7 +171,7 @@ stops_on x y = grind arith
 last_is : {row_format : N.RowFormat} {columns : List Column} {at after : Cursor} {kind : Kind} (nulls : ℕ → Bool) → Knows row_format columns
     → TakesColumn row_format columns at after kind
     → (at.column + 1 == row_format.count) ≡ ends (marked (drop after.column columns) nulls (at.column + 1))
-last_is nulls knows taken = last_one _ _ _ _ _ knows.counted taken.next ∙ ends_marked _ nulls _
+last_is nulls knows taken = grind (arith, ends_marked, last_one)
 
 -- the next cell was read, or it stopped
 pub cell_read : {R W U : Type 0} {remaining : N.Tells R} {contents : N.Tells W} {old new : Rows R W} {at after : Cursor}
@@ -202,13 +202,13 @@ module _ {token : N.RowToken} {charset : Charset} {all : List Column} where
   module _ {p q : At} {count : ℕ} where
     rows_on : {part more : RowPart} {r : At} → RowsAt token charset all p q count part → Path (N.Words.row charset) N.row_so_far part q r more
         → RowsAt token charset all p r count more
-    rows_on x y = record { before = x.before; counted = x.counted; path = path_both x.path (path_map (λ a m. row_among _ _ _ _) y) }
+    rows_on x y = search (N.rules, path_both, path_map, row_among)
 
     rows_stay : {part : RowPart} {r : At} → RowsAt token charset all p q count part → Passes q r [] [] → RowsAt token charset all p r count part
-    rows_stay x y = rows_on x (record { bytes = []; made = []; writes = writes_none; takes = y.takes; puts = y.puts; place_is = y.place_is })
+    rows_stay x y = search (N.rules, rows_on, writes_none)
 
-    pub rows_stop : {part : RowPart} {d : PayloadView} {j : SinkView} {failed : Bool} {stop : Stop} → RowsAt token charset all p q count part
-        → RowStops charset part q.seen d q.place q.held j failed stop → N.RowsStop token charset all p.seen d p.place p.held j failed stop
+    pub rows_stop : {part : RowPart} {e : Halt} → RowsAt token charset all p q count part → until (RowStops charset part) q e
+        → until (N.RowsStop token charset all) p e
     rows_stop {part = part} x y = record {
       earlier = x.before;
       part = part;
@@ -261,8 +261,7 @@ module _ {charset : Charset} {all : List Column} {p q : At} {count : ℕ} (x : R
       let all_rows : count + length y.earlier + 1 ≡ count + n = omega arith in
       rw all_rows at z
 
-  rows_more_stop : {d : PayloadView} {j : SinkView} {failed : Bool} {stop : Stop} → N.RowsStop N.PlainRow charset all q.seen d q.place q.held j failed stop
-      → N.RowsStop N.PlainRow charset all p.seen d p.place p.held j failed stop
+  rows_more_stop : {e : Halt} → until (N.RowsStop N.PlainRow charset all) q e → until (N.RowsStop N.PlainRow charset all) p e
   rows_more_stop y =
       rows_stop (rows_further x (path_of y.streams refl)) y.stops
 
@@ -288,8 +287,8 @@ module _ {charset : Charset} {all : List Column} {p q : At} {column count : ℕ}
         let one = cell_path _ c x.counted none y in
         record { cells = x.cells ++ one.0 ∷ []; counted = omega (arith, N.length-append x.cells (one.0 ∷ [])); rows = rows_on x.rows one.1 }
 
-    pub rowing_stop : {d : PayloadView} {j : SinkView} {failed : Bool} {stop : Stop} → Rowing charset all ((c, false) ∷ ks) p q column count
-        → N.RowSteps.StopsAt charset c.kind column (ends ks) q d j failed stop → N.RowsStop N.PlainRow charset all p.seen d p.place p.held j failed stop
+    pub rowing_stop : {e : Halt} → Rowing charset all ((c, false) ∷ ks) p q column count
+        → until (N.RowSteps.StopsCell charset c.kind column (ends ks)) q e → until (N.RowsStop N.PlainRow charset all) p e
     rowing_stop x y = rows_stop x.rows (N.NullSteps.marked_stops _ _ _ c (rw (N.sym x.counted) at y))
 
 -- ---- the cells of either kind of row, run after run and one by one
@@ -334,14 +333,7 @@ SomeHere remaining contents token columns old new result = N.SomeRead remaining 
 passes_on : {R W : Type 0} (remaining : N.Tells R) (contents : N.Tells W) {first old new : Rows R W} {f : List ℕ → List ℕ → Type 0}
     → StaysInRow first old → StaysInRow first new → (run : over (N.PutsRun f) (here remaining contents old) (here remaining contents new))
     → Passes (here remaining contents old) (here remaining contents new) run.bytes run.text
-passes_on remaining _ {new = new} before after run = record {
-  takes = run.takes;
-  between = N.between_of remaining new.payload.now after.in_row.payload.going;
-  puts = run.puts;
-  few = after.in_row.sink.ready.1 after.in_row.sink.writing;
-  delivered = before.in_row.sink.ready.2;
-  place_is = run.place_is;
-}
+passes_on remaining _ before after run = search (N.rules, N.between_of)
 
 module _ {R W : Type 0} (remaining : N.Tells R) (contents : N.Tells W) (old new : Rows R W) {columns : List Column} (nulls : ℕ
     → Bool) {at after : Cursor} {kind : Kind} (knows : Knows old.row_format.now columns) (ahead : N.IsCursor old.row_format.now columns at)
@@ -368,8 +360,7 @@ module _ {R W : Type 0} (remaining : N.Tells R) (contents : N.Tells W) (old new 
         (all_put refl in_row.sink.ready.2 (left_here false is)) (cell_read nulls y knows taken)
 
     next_stops : {stop : Stop} (null : Bool) → nulls at.column ≡ null → N.NextRead {U = ⊤} remaining contents at kind null old new (Err stop)
-        → RowStops old.row_format.now.charset (N.Bitmap columns) p.seen (seen remaining new.payload.now) p.place p.held (held contents new.sink.now)
-        new.sink.now.failed stop
+        → until (RowStops old.row_format.now.charset (N.Bitmap columns)) p (halt remaining contents new stop)
     next_stops true is y = rw (y.0, y.1.failed) (null_breaks [] (N.Takes-none _ 0)
         (grind arith) (left_here _ is) (rw (last_is nulls knows taken) at (y.1.gives in_row.sink.writing)))
     next_stops false is y = cell_stops (all_put refl in_row.sink.ready.2 (left_here _ is)) (cell_read nulls y knows taken)
@@ -422,7 +413,7 @@ module _ {R W : Type 0} {remaining : N.Tells R} {contents : N.Tells W} {first ol
     run_fails N.Unmarked x run knows =
         let y = look N.Unmarked x knows in
         let sink = x.kept.in_row.sink in
-        rw (← x.kept.same.3) (rows_stop y.2.rows (rw y.2.counted at (run_breaks {place = old.payload.now.place} y.2.cells run.cells y.0 y.1 y.2.counted
+        rw (← x.kept.same.3) (rows_stop y.2.rows (rw y.2.counted at (run_breaks {p = here remaining contents old} y.2.cells run.cells y.0 y.1 y.2.counted
         (sink.ready.1 sink.writing) sink.ready.2)))
     run_fails {stop = stop} {columns = columns} (N.Marked bitmap) x run knows =
         let y = look (N.Marked bitmap) x knows in
@@ -448,14 +439,7 @@ module _ {R W : Type 0} {remaining : N.Tells R} {contents : N.Tells W} {first ol
                 (cell_read (λ k. false) next.read y.0 t)),
           );
     }
-    stands_next (N.Marked bitmap) x leaves next = record {
-      kept = stays_on x.kept leaves;
-      reads = λ columns knows.
-          let y = look (N.Marked bitmap) x knows in
-          let t = next.takes _ y.0 y.1 in
-          let near = next_nears remaining contents old new (N.bit bitmap.now) y.0 y.1 t _ x.kept.in_row y.2.1 _ refl leaves next.read in
-          rw (← x.kept.same.3) (t.ahead, (y.2.0, rw (N.sym t.further) at near));
-    }
+    stands_next (N.Marked bitmap) x leaves next = grind (arith, look, next_nears, stays_on)
 
     -- it stopped
     pub next_fails : {stop : Stop} {columns : List Column} (nulls : N.Nulls) → Stands remaining contents nulls first old from count
@@ -491,11 +475,7 @@ stands_first _ (N.Marked bitmap) _ is known writing kept sink start ahead read =
   omega arith,
   record {
     kept = kept;
-    reads = rw sink (λ columns knows.
-        let whole = read.0 ∙ ap N.bitmap_length knows.counted in
-        let near = bitmap_nears columns _ (omega arith) whole read.1 read.2 (writing.ready.1 writing.writing)
-        writing.ready.2 read.3 in
-        (ahead columns knows, (refl, rw (start, is) near)));
+    reads = grind (arith, bitmap_nears);
   },
 )
 
@@ -519,13 +499,7 @@ next_further N.Unmarked x run known next =
     let y = look N.Unmarked (stands_run N.Unmarked x run) known.1 in
     let some = N.RowSteps.cell_some _ _ (cell_read (λ k. false) next.read y.0 (next.takes _ y.0 y.1)) in
     (omega arith, inl some)
-next_further {remaining = remaining} {contents = contents} {middle = middle} {new = new} (N.Marked bitmap) x run known next =
-    let from = look (N.Marked bitmap) x known.1 in
-    let y = look (N.Marked bitmap) (stands_run (N.Marked bitmap) x run) known.1 in
-    let t = next.takes _ y.0 y.1 in (
-      next_place remaining contents middle new (N.bit bitmap.now) y.0 y.1 t _ next.read,
-      inr (omega (arith, (run.cells.wrote.1 _ from.0 from.1).further)),
-    )
+next_further (N.Marked bitmap) x run known next = grind (arith, look, next_place, stands_run)
 
 -- so less is left of the packets that may come, or of the row
 pub row_shrinks : (most most' p q r count count' from after : ℕ) → count' ≡ count → most' ≡ most → r ≤ most' → after ≤ count' → count ≤ 65535 → p ≤ q
@@ -593,7 +567,7 @@ pub record RowsCome {R W : Type 0} (remaining : N.Tells R) (contents : N.Tells W
 
 module _ {R W : Type 0} {remaining : N.Tells R} {contents : N.Tells W} where
   pub come_first : {token : N.RowToken} {first : Rows R W} → IsInRow first → RowsCome remaining contents token first first 0
-  come_first in_row = record { kept = stays in_row; reads = λ columns knows. rows_first in_row.sink.ready.2 }
+  come_first in_row = grind (arith, rows_first, stays)
 
   module _ {U : Type 0} {u : U} {first old new : Rows R W} {count n : ℕ} {last : Bool} (leaves : N.LeavesRows old new (Ok u))
       (some : 0 < old.row_format.now.count) (taken : (columns : List Column) → Knows old.row_format.now columns
@@ -661,7 +635,6 @@ module _ {R W : Type 0} {remaining : N.Tells R} {contents : N.Tells W} where
     pub come_stops : {columns : List Column} {stop : Stop} (token : N.RowToken) → RowsCome remaining contents token first old count
         → N.LeavesRows {U = ℕ} old new (Err stop)
         → SomeFrom remaining contents token old new (Err stop) → Knows first.row_format.now columns
-        → N.RowsStop token first.row_format.now.charset columns (seen remaining first.payload.now) (seen remaining new.payload.now) first.payload.now.place
-        (held contents first.sink.now) (held contents new.sink.now) new.sink.now.failed stop
+        → until (N.RowsStop token first.row_format.now.charset columns) (here remaining contents first) (halt remaining contents new stop)
     come_stops N.PlainRow x _ read knows = rows_more_stop (x.reads _ knows) (rw x.kept.same.3 at (read _ (rw (← x.kept.same.3) at knows)))
     come_stops N.NbcRow x _ read knows = rows_stop (x.reads _ knows) (rw x.kept.same.3 at (read _ (rw (← x.kept.same.3) at knows))).1

@@ -3,8 +3,8 @@ use Rattle.tds_rows.proofs as N
 use N.{◌≡◌, ◌∙◌, inl, inr, ℕ, ◌+◌, ◌-◌, ◌^◌, ◌<◌, ◌≤◌, Bool, true, false, List, [], ◌∷◌, ◌++◌, length, refl, sym, arith, Stop, PayloadView, Column, SinkView}
 use N.{Charset, Cell, CellPart, RowPart, row_so_far}
 use N.Words.{row}
-use N.RowSteps.{PutsAt, StopsAt, cell_some, StopsCell}
-use N.Paths.{At, Path, RowStops, path_none, path_of, streams_of, over}
+use N.RowSteps.{PutsAt, cell_some, StopsCell}
+use N.Paths.{At, Halt, Path, RowStops, path_none, path_of, streams_of, over, until}
 use Rattle.tds_cells.proofs.RowTexts.{begun_text, coming, ends, line_grows, nulls_ahead, nulls_text, part_text, rest_of, row_cell}
 use Rattle.tds_cells.proofs.RowLaws.{begins_open, cell_in_row}
 
@@ -51,12 +51,12 @@ module _ (charset : Charset) (cells : List Cell) (ks : List (Column × Bool)) wh
         more = x.more ++ rest;
         text_is = N.tail_after _ _ up is text row_so_far front begun grows at to _ rest size x.text_is (part_text charset cells ks to)
             ∙ N.ap row_so_far (sym (is.add at x.element size));
-        breaks = N.WritesPrefix-longer x.middle j x.more rest stop x.breaks;
+        breaks = grind (arith, N.WritesPrefix-longer);
       }
 
   -- the cell stopped, and so the row
-  stops_there : {from : CellPart} {b d : PayloadView} {place : ℕ} {i j : SinkView} {failed : Bool} {stop : Stop} → 0 < N.cell_size from
-      → N.StopsStreaming small text from b d place i j failed stop → N.StopsStreaming big row_so_far (up from) b d place i j failed stop
+  stops_there : {from : CellPart} {p : At} {e : Halt} → 0 < N.cell_size from → until (N.StopsStreaming small text from) p e
+      → until (N.StopsStreaming big row_so_far (up from)) p e
   stops_there some x =
       let is = cell_in_row charset cells ks in
       record {
@@ -76,9 +76,8 @@ module _ (charset : Charset) (cells : List Cell) (ks : List (Column × Bool)) wh
         ];
       }
 
-  pub marked_stops : {b d : PayloadView} {place : ℕ} {i j : SinkView} {failed : Bool} {stop : Stop} (c : Column)
-      → StopsCell charset c.kind (length cells) (ends ks) b d place i j failed stop
-      → RowStops charset (N.InCell cells (N.cell_start c.kind (N.shape charset c.kind)) ks) b d place i j failed stop
+  pub marked_stops : {p : At} {e : Halt} (c : Column) → until (StopsCell charset c.kind (length cells) (ends ks)) p e
+      → until (RowStops charset (N.InCell cells (N.cell_start c.kind (N.shape charset c.kind)) ks)) p e
   marked_stops c x = rw (← begins_open charset cells ks c.kind _) (stops_there (grind arith) x)
 
 -- ---- column after column
@@ -141,8 +140,8 @@ module _ {charset : Charset} {start : RowPart} {c : Column} {ks : List (Column �
       → NearsCells charset start ks p (record q { held = j }) (column + 1)
   null_nears x puts = record {
     cells = x.cells ++ N.Null ∷ [];
-    counted = omega (arith, N.length-append x.cells (N.Null ∷ []));
-    nears = N.nears_put _ _ _ _ _ _ _ _ _ _ _ x.nears puts;
+    counted = grind (arith, N.length-append);
+    nears = grind (arith, N.nears_put);
     place_is = x.place_is;
   }
 
@@ -183,10 +182,10 @@ module _ {charset : Charset} {start : RowPart} {c : Column} {ks : List (Column �
       → PutsAt charset c.kind column (ends ks) q r → Reads charset start ks p r (column + 1)
   cell_reads none x y =
       let one = cell_path _ c x.counted none y in
-      record { cells = x.cells ++ one.0 ∷ []; counted = omega (arith, N.length-append x.cells (one.0 ∷ [])); path = N.Paths.path_both x.path one.1 }
+      record { cells = x.cells ++ one.0 ∷ []; counted = grind (arith, N.length-append); path = N.Paths.path_both x.path one.1 }
 
-  pub cell_stops : {d : PayloadView} {j : SinkView} {failed : Bool} {stop : Stop} → Reads charset start ((c, false) ∷ ks) p q column
-      → StopsAt charset c.kind column (ends ks) q d j failed stop → RowStops charset start p.seen d p.place p.held j failed stop
+  pub cell_stops : {e : Halt} → Reads charset start ((c, false) ∷ ks) p q column → until (StopsCell charset c.kind column (ends ks)) q e
+      → until (RowStops charset start) p e
   cell_stops x y = N.Paths.path_stops x.path (marked_stops _ _ _ c (rw (sym x.counted) at y))
 
   -- a cell was read and its text put, and NULLs may be after it

@@ -16,12 +16,9 @@ step_none between = record { reads = grind arith; between = between; place_is = 
 steps_both : {s t u : CellPart} {a b d : PayloadView} {place middle place' : ℕ} → StepsOver s t a b place middle → StepsOver t u b d middle place'
     → StepsOver s u a d place place'
 steps_both x y = record {
-  reads = N.reads_both _ _ _ _ _ _ _ x.reads y.reads;
+  reads = grind (arith, N.reads_both);
   between = y.between;
-  place_is = omega (
-    arith,
-    N.length-append x.reads.bytes y.reads.bytes,
-  );
+  place_is = grind (arith, N.length-append);
 }
 
 pub stops_after_steps : {s t : CellPart} {a b d : PayloadView} {place middle : ℕ} {stop : Stop} → StepsOver s t a b place middle
@@ -101,7 +98,7 @@ pub passes_more : {m n k : ℕ} {a b d : PayloadView} {place middle place' : ℕ
     → PassesData k a d place place'
 passes_more {m = m} {n = n} {a = a} {b = b} {d = d} sum x y = record {
   bytes = x.bytes ++ y.bytes;
-  counted = omega (arith, N.length-append x.bytes y.bytes);
+  counted = grind (arith, N.length-append);
   takes = N.subst (λ j. N.Takes a d (x.bytes ++ y.bytes) j) (omega arith) (N.Takes-trans a b d _ _ m n (omega arith) x.takes y.takes);
   between = y.between;
   place_is = omega arith;
@@ -113,9 +110,9 @@ pub cuts_more : {m n k : ℕ} {a b d : PayloadView} {place middle : ℕ} {stop :
 cuts_more {m = m} {a = a} {b = b} {d = d} sum x y = record {
   bytes = x.bytes ++ y.bytes;
   own = y.own;
-  fewer = omega (arith, N.length-append x.bytes y.bytes);
+  fewer = grind (arith, N.length-append);
   ends = N.Ends-after a b d _ _ m _ x.takes y.ends;
-  stop_is = y.stop_is ∙ N.ap (λ j. N.began_at j y.own) (omega (arith, N.length-append x.bytes y.bytes));
+  stop_is = grind (arith, N.length-append);
 }
 
 -- a scalar cell whose value isn't refused was read
@@ -172,7 +169,7 @@ module _ {c : Conversion} {total : Option ℕ} {sum : ℕ} {a b d : PayloadView}
     pub chunks_more : {place' : ℕ} → PassesData n d e there place' → WalksChunks c total (sum + n) a e place place'
     chunks_more z = record {
       content = x.content ++ z.bytes;
-      counted = omega (arith, N.length-append x.content z.bytes);
+      counted = grind (arith, N.length-append);
       steps = steps_both (steps_both x.steps y) (data_steps (chunk_holds _ c total) (any_begins any) _ z tt);
     }
 

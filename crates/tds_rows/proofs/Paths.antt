@@ -16,9 +16,28 @@ at_of remaining contents payload sink = record { seen = N.seen remaining payload
 abbrev pub here : {R W : Type 0} → N.Tells R → N.Tells W → N.Rows R W → At
 here remaining contents rows = at_of remaining contents rows.payload.now rows.sink.now
 
+-- how a call stopped: what the payload is seen to give then, what the sink holds, whether a write failed, and the stop
+pub record Halt : Type 0 where
+  pub seen : PayloadView
+  pub held : SinkView
+  pub failed : N.Bool
+  pub stop : N.Stop
+
+abbrev pub halt : {R W : Type 0} → N.Tells R → N.Tells W → N.Rows R W → N.Stop → Halt
+halt remaining contents rows stop = record {
+  seen = N.seen remaining rows.payload.now;
+  held = N.held contents rows.sink.now;
+  failed = rows.sink.now.failed;
+  stop = stop;
+}
+
 -- a relation between two places
 abbrev pub over : {T : Type 1} → (PayloadView → PayloadView → ℕ → ℕ → SinkView → SinkView → T) → At → At → T
 over f p q = f p.seen q.seen p.place q.place p.held q.held
+
+-- a relation between a place and how a call stopped after it
+abbrev pub until : {T : Type 1} → (PayloadView → PayloadView → ℕ → SinkView → SinkView → N.Bool → N.Stop → T) → At → Halt → T
+until f p e = f p.seen e.seen p.place p.held e.held e.failed e.stop
 
 -- From one place to another bytes were read, and what they make was put.
 pub record Path {S : Type 0} (g : N.Grammar S Fault) (text : S → List ℕ) (s : S) (p q : At) (t : S) : Type 0 where
@@ -54,12 +73,11 @@ module _ {S : Type 0} {g : N.Grammar S Fault} {text : S → List ℕ} where
     writes = writes_both x.writes y.writes;
     takes = N.takes_both p.seen q.seen r.seen x.bytes y.bytes x.takes y.takes;
     puts = N.Puts-trans _ _ _ _ _ x.puts y.puts;
-    place_is = omega (N.arith, N.length-append x.bytes y.bytes);
+    place_is = grind (N.arith, N.length-append);
   }
 
   -- a call that stops after one that doesn't
-  pub path_stops : {s t : S} {p q : At} {d : PayloadView} {j : SinkView} {failed : N.Bool} {stop : N.Stop} → Path g text s p q t
-      → N.StopsStreaming g text t q.seen d q.place q.held j failed stop → N.StopsStreaming g text s p.seen d p.place p.held j failed stop
+  pub path_stops : {s t : S} {p q : At} {e : Halt} → Path g text s p q t → until (N.StopsStreaming g text t) q e → until (N.StopsStreaming g text s) p e
   path_stops {p = p} x y = N.streaming_after _ _ _ _ _ _ _ _ _ _ p.place _ _ (streams_of x) (rw x.place_is at y)
 
 -- what is known of all bytes and what they make

@@ -24,12 +24,9 @@ PutsCell charset kind = N.PutsField (N.start_of charset kind)
 abbrev pub StopsCell : Charset → Kind → ℕ → Bool → PayloadView → PayloadView → ℕ → SinkView → SinkView → Bool → Stop → Type 0
 StopsCell charset kind = StopsField (N.start_of charset kind)
 
--- A cell of a kind was read and its text put, from one place to another; or it stopped so.
+-- so it was, from one place to another
 abbrev pub PutsAt : Charset → Kind → ℕ → Bool → At → At → Type 0
 PutsAt charset kind column last p q = over (PutsCell charset kind column last) p q
-
-abbrev pub StopsAt : Charset → Kind → ℕ → Bool → At → PayloadView → SinkView → Bool → Stop → Type 0
-StopsAt charset kind column last p d j failed stop = StopsCell charset kind column last p.seen d p.place p.held j failed stop
 
 -- ---- a cell whose text comes with its last element alone
 

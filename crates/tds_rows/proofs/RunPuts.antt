@@ -35,51 +35,48 @@ whole_breaks {bytes = bytes} {a = a} {b = b} {h = h} {j = j} {stop = stop} _ _ {
     (grind arith) few delivered writes.text_is breaks in
     record { at = broken.0; cause = grind arith }
 
-pub put_whole : {W U : Type 0} {column place' : ℕ} {last : Bool} {bytes text : List ℕ} {contents : N.Tells W} {old new : N.Sink W}
-    {r : N.Result U Stop} (charset : N.Charset) (kind : Kind) (a b : N.PayloadView) (place : ℕ) → N.IsWriting old → N.IsBetween b
-    → N.WritesWhole (N.start_of charset kind) column last bytes text → N.Takes a b bytes 0 → place' ≡ place + length bytes
-    → N.PutsPiece contents old new text r
-    → N.MatchResult r (λ _. PutsCell charset kind column last a b place place' (held contents old) (held contents new))
-    (λ stop. StopsCell charset kind column last a b place (held contents old) (held contents new) new.failed stop)
-put_whole {bytes = bytes} {r = N.Ok u} _ _ a b _ _ _ x takes at puts =
-    whole_puts _ _ _ _ _ _ _ _ x (grind arith) at puts.gives
-put_whole {r = N.Err stop} _ _ a b _ going between x takes at puts =
-    whole_breaks _ _ N.[] x (rw N.append-nil takes) between (going.ready.1 going.writing) going.ready.2 (puts.gives going.writing) puts.failed
+-- its text comes by one call
+module _ {R W U : Type 0} {column : ℕ} {last : Bool} {bytes text : List ℕ} {contents : N.Tells W} {before after : N.Sink W} (remaining : N.Tells R)
+    (old new : Payload R) (charset : N.Charset) (kind : Kind) (going : N.IsWriting before) (between : N.IsBetween (N.seen remaining new))
+    (at : new.place ≡ old.place + length bytes) where
+  pub put_whole : {r : N.Result U Stop} → N.WritesWhole (N.start_of charset kind) column last bytes text
+      → N.Takes (N.seen remaining old) (N.seen remaining new) bytes 0 → N.PutsPiece contents before after text r
+      → N.FieldPut remaining contents (N.start_of charset kind) column last old new before after r
+  put_whole {r = N.Ok u} x takes puts = whole_puts _ _ _ _ _ _ _ _ x (grind arith) at puts.gives
+  put_whole {r = N.Err stop} x takes puts =
+      whole_breaks _ _ N.[] x (rw N.append-nil takes) between (going.ready.1 going.writing) going.ready.2 (puts.gives going.writing) puts.failed
 
--- its text comes with the last element, however many packets its bytes were in
-pub put_cell : {W U : Type 0} {column place' : ℕ} {last : Bool} {bytes text : List ℕ} {contents : N.Tells W} {old new : N.Sink W}
-    {r : N.Result U Stop} (charset : N.Charset) (kind : Kind) (a b : N.PayloadView) (place : ℕ) → N.IsWriting old → N.IsBetween b
-    → N.WritesCell (N.start_of charset kind) column last bytes text → N.Takes a b bytes (length bytes) → place' ≡ place + length bytes
-    → N.PutsPiece contents old new text r
-    → N.MatchResult r (λ _. PutsCell charset kind column last a b place place' (held contents old) (held contents new))
-    (λ stop. StopsCell charset kind column last a b place (held contents old) (held contents new) new.failed stop)
-put_cell {r = N.Ok u} _ _ _ _ _ _ _ x takes at puts = whole_puts _ _ _ _ _ _ _ _ (whole_of x) takes at puts.gives
-put_cell {column = column} {last} {text = text} {contents} {old} {r = N.Err stop} _ kind _ _ _ going between x takes at puts = record {
-  at = x.at;
-  cause = N.inr (
-    record {
-      bytes = x.front;
-      element = x.element;
-      ahead = N.[];
-      spelt = x.spelt;
-      next = x.next;
-      takes = rw (N.append-nil, x.joined) takes;
-      between = between;
-      middle = held contents old;
-      few = going.ready.1 going.writing;
-      puts = N.RowSteps.none_put kind _ column last x.at _ x.quiet going.ready.2;
-      more = text;
-      text_is = grind arith;
-      breaks = puts.gives going.writing;
-    },
-    puts.failed,
-  );
-}
+  -- with the last element, however many packets its bytes were in
+  pub put_cell : {r : N.Result U Stop} → N.WritesCell (N.start_of charset kind) column last bytes text
+      → N.Takes (N.seen remaining old) (N.seen remaining new) bytes (length bytes) → N.PutsPiece contents before after text r
+      → N.FieldPut remaining contents (N.start_of charset kind) column last old new before after r
+  put_cell {r = N.Ok u} x takes puts = whole_puts _ _ _ _ _ _ _ _ (whole_of x) takes at puts.gives
+  put_cell {r = N.Err stop} x takes puts = record {
+    at = x.at;
+    cause = N.inr (
+      record {
+        bytes = x.front;
+        element = x.element;
+        ahead = N.[];
+        spelt = x.spelt;
+        next = x.next;
+        takes = rw (N.append-nil, x.joined) takes;
+        between = between;
+        middle = held contents before;
+        few = going.ready.1 going.writing;
+        puts = N.RowSteps.none_put kind _ column last x.at _ x.quiet going.ready.2;
+        more = text;
+        text_is = grind arith;
+        breaks = puts.gives going.writing;
+      },
+      puts.failed,
+    );
+  }
 
 -- the place after bytes of the packet that were handed out
 pub consumed : {R : Type 0} (old : Payload R) {new : Payload R} (n : ℕ) → new ≡ N.further old n → n ≤ length (N.buffered old)
     → new.place ≡ old.place + length (N.take n (N.buffered old))
-consumed old n is within = omega (arith, N.ap (λ p. p.place) is, N.length-take-le n (N.buffered old) within)
+consumed old n is within = grind (arith, N.length-take-le)
 
 -- ---- what is written into the room that a sink lends
 
@@ -109,7 +106,7 @@ module _ (h j : N.SinkView) (room written : List ℕ) (n : ℕ) (whole : length 
 -- a run within a row goes over the ends of none
 pub row_written : {row_format : N.RowFormat} {from to : N.Cursor} {bytes text : List ℕ} (nulls : N.Nulls)
     → N.CellsWritten row_format (N.nulls_of nulls) from to bytes text → N.RunWritten row_format nulls from to 0 bytes text
-row_written N.Unmarked wrote = λ columns knows ahead. marked_in_rows (wrote columns knows ahead)
+row_written N.Unmarked wrote = grind (arith, marked_in_rows)
 row_written (N.Marked bitmap) wrote = (N.refl, wrote)
 
 -- the cells of a run within a row were passed over, and its text was put
@@ -133,14 +130,13 @@ run_put {to = to} {bytes = bytes} {text = text} {r = N.Err stop} _ _ _ _ wrote t
 }
 
 -- a write of their text failed, in the row that the run began in
-pub run_breaks : {row_format : N.RowFormat} {columns : List N.Column} {from : N.Cursor} {a b : N.PayloadView} {h j : N.SinkView} {place : ℕ} {failed : Bool}
-    {stop : N.Stop} (cells : List N.Cell) → N.WritesPrefixOfRun row_format (λ k. N.false) from a b h j failed stop → N.Knows row_format columns
-    → N.IsCursor row_format columns from → length cells ≡ from.column
-    → N.HasRoom h → N.Counts h
-    → N.Paths.RowStops row_format.charset (N.after_cells row_format.charset cells (N.drop from.column columns)) a b place h j failed stop
-run_breaks {row_format = row_format} {a = a} {b = b} {h = h} {j = j} {stop = stop} cells y knows ahead counted few delivered =
+pub run_breaks : {row_format : N.RowFormat} {columns : List N.Column} {from : N.Cursor} {p : At} {e : N.Paths.Halt} (cells : List N.Cell)
+    → N.WritesPrefixOfRun row_format (λ k. N.false) from p.seen e.seen p.held e.held e.failed e.stop → N.Knows row_format columns
+    → N.IsCursor row_format columns from → length cells ≡ from.column → N.HasRoom p.held → N.Counts p.held
+    → N.Paths.until (N.Paths.RowStops row_format.charset (N.after_cells row_format.charset cells (N.drop from.column columns))) p e
+run_breaks {row_format = row_format} {p = p} {e} cells y knows ahead counted few delivered =
     let runs = y.wrote _ knows ahead in
     let x = marked_cells runs.count y.bytes _ counted runs.writes in
-    let broken = N.breaks_somewhere _ N.row_so_far (row_grows row_format.charset) _ a b h j stop y.between _ y.bytes N.[] _ x.writes.spelt
+    let broken = N.breaks_somewhere _ N.row_so_far (row_grows row_format.charset) _ p.seen e.seen p.held e.held e.stop y.between _ y.bytes N.[] _ x.writes.spelt
     (rw N.append-nil (grind arith)) few delivered x.writes.text_is y.breaks in
     record { at = broken.0; cause = grind arith }

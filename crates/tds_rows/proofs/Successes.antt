@@ -2,6 +2,7 @@
 use Rattle.tds_rows.proofs as N
 use N.{◌≡◌, ◌∙◌, inl, inr, ℕ, ◌+◌, ◌<◌, List, [], ◌∷◌, ◌++◌, length, ap, arith, Ok, Err, if◌then◌else◌, Rose, Fault, Stop, before, Grammar, Spelt, Cell}
 use N.{Brings}
+use N.Paths.{At}
 use N.Words.{row}
 use Rattle.tds_packet.specs.declared.payload.Payload.{Payload}
 use Rattle.tds_cells.proofs.CellLaws.{cell_is_read}
@@ -30,8 +31,8 @@ module _ {S : Type 0} (g : Grammar S Fault) (from to : S) (a b : N.PayloadView) 
       let all = c.1 ∙ N.append_assoc _ x.ahead c.0 ∙ N.append_assoc bytes e _ in
       let refused : N.IsRefused g at rest fault = record {
         some = omega arith;
-        whole = omega (arith, N.length-append e (x.ahead ++ c.0));
-        first = ap (λ k. g.fault at (N.take k rest)) (N.sym whole) ∙ ap (g.fault at) (N.take-append_seam e _) ∙ x.first;
+        whole = grind (arith, N.length-append);
+        first = grind (arith, N.take-append_seam);
       } in
       (N.one_longest g _ _ _ _ _ _ (rw (← all) at (N.longest_refused g _ _ _ _ _ spelt refused)) last).1
 
@@ -74,14 +75,12 @@ none_stops {g} _ brings spelt none reads writes x = elim x.cause [
 -- ---- the calls
 
 -- one that reads to such a state and puts the text succeeds
-pub streaming_succeeds : {S R W U : Type 0} {from to : S} {bytes : List ℕ} {g : Grammar S Fault} (text : S → List ℕ) (remaining : N.Tells R)
-    (contents : N.Tells W) (old new : Payload R) (sink sink' : N.Sink W) (result : N.Result U Stop) (more : List ℕ) (P : U
-    → Type 0)
-    → N.MatchResult result P (λ stop. N.StopsStreaming g text from (N.seen remaining old) (N.seen remaining new) old.place (N.held contents sink)
-    (N.held contents sink') sink'.failed stop) → Spelt g from bytes to → g.size to ≡ 0
-    → N.SucceedsOn remaining old new sink sink' result (bytes ++ more)
-streaming_succeeds _ _ _ _ _ _ _ (Ok x) _ P _ _ _ = grind arith
-streaming_succeeds _ _ _ _ _ _ _ (Err stop) more P put spelt none =
+pub streaming_succeeds : {S U : Type 0} {from to : S} {bytes : List ℕ} {g : Grammar S Fault} (text : S → List ℕ) (p : At) (b : N.PayloadView)
+    (j : N.SinkView) (failed : N.Bool) (result : N.Result U Stop) (more : List ℕ) (P : U → Type 0)
+    → N.MatchResult result P (λ stop. N.StopsStreaming g text from p.seen b p.place p.held j failed stop) → Spelt g from bytes to → g.size to ≡ 0
+    → Brings p.seen (bytes ++ more) → (Rose p.seen.failures b.failures → ⊥) → (Rose p.held.failures j.failures → ⊥) → N.is_ok result ≡ N.true
+streaming_succeeds _ _ _ _ _ (Ok x) _ P _ _ _ = grind arith
+streaming_succeeds _ _ _ _ _ (Err stop) more P put spelt none =
     λ brings reads writes. absurd (none_stops more brings spelt none reads writes put)
 
 pub value_passes : {R U : Type 0} (remaining : N.Tells R) (kind : N.Kind) (old new : Payload R) (result : N.Result U Stop) (value : Cell)
@@ -104,7 +103,7 @@ long_is_read column kind c N.Chunked value bytes h = cell_is_read column kind (N
 token_row_is_read : (token : N.RowToken) (charset : N.Charset) (columns : List N.Column) (cells : List Cell) (bytes : List ℕ) → 0 < length columns
     → N.SpellsRow token charset columns cells bytes → Spelt (row charset) (N.row_start token charset columns) bytes (N.WholeRow cells)
 token_row_is_read N.PlainRow _ _ _ _ some h = row_is_read _ _ _ _ h
-token_row_is_read N.NbcRow charset columns cells bytes some h = nbc_row_is_read charset columns cells bytes (some_bitmap columns some) h
+token_row_is_read N.NbcRow charset columns cells bytes some h = search (N.rules, nbc_row_is_read, some_bitmap)
 
 module _ (token : N.RowToken) (charset : N.Charset) (columns : List N.Column) (some_columns : 0 < length columns) where
   abbrev all_rows : Grammar N.RowsPart Fault

@@ -12,6 +12,5 @@ returns-in_err-row_by-clause-row g c = λ _ _.
 
 pub returns-in_err-row_by-clause-succeeds : goal.returns-in_err-row_by-clause-succeeds
 returns-in_err-row_by-clause-succeeds g c = λ going writing cells bytes more spelt.
-    N.Successes.streaming_succeeds N.row_so_far g.R.Read.remaining g.W.Write.contents c.args.payload.now c.payload-1.given.0 c.args.sink.now
-    c.sink-1.given.0 _ _ _
+    N.Successes.streaming_succeeds N.row_so_far (N.Paths.at_of g.R.Read.remaining g.W.Write.contents c.args.payload.now c.args.sink.now) _ _ _ _ _ _
     (returns-in_err-row_by-clause-row g c going writing) (nbc_row_is_read _ _ cells bytes (some_bitmap _ c.args.columns.some) spelt) N.refl

@@ -12,6 +12,5 @@ returns-clause-row g c = λ _ _.
 
 pub returns-clause-succeeds : goal.returns-clause-succeeds
 returns-clause-succeeds g c = λ going writing cells bytes more spelt.
-    N.Successes.streaming_succeeds N.row_so_far g.R.Read.remaining g.W.Write.contents c.args.payload.now c.payload-1.given.0 c.args.sink.now
-    c.sink-1.given.0 _ _ _
+    N.Successes.streaming_succeeds N.row_so_far (N.Paths.at_of g.R.Read.remaining g.W.Write.contents c.args.payload.now c.args.sink.now) _ _ _ _ _ _
     (returns-clause-row g c going writing) (row_is_read _ _ _ _ spelt) N.refl

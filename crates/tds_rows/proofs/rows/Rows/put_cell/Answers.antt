@@ -10,8 +10,8 @@ returns-in-Ok g c =
       leaves = search N.arith;
       cell =
           let alone = rw c.buffered-bytes.ensures at c.in-Ok.ensures.cell in
-          N.RunPuts.put_whole _ _ _ _ _ c.requires.in_row.sink
-          (c.consume.ensures.between c.requires.in_row.payload.going) alone.1.whole c.consume.ensures.gives at c.put.ensures;
+          N.RunPuts.put_whole g.R.Read.remaining old.payload.now c.consume.new.self _ _ c.requires.in_row.sink
+          (c.consume.ensures.between c.requires.in_row.payload.going) at alone.1.whole c.consume.ensures.gives c.put.ensures;
     }
 
 -- a long value is that of its kind

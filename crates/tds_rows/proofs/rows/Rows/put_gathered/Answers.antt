@@ -33,6 +33,6 @@ returns-in-Ok g c = record {
       let x = rw (N.sym c.bytes-bytes.ensures.value) at (c.in_ok-gather_scalar.ensures.cell charset) in
       let all =
       N.take_all c.in-Ok.cell.used bytes (omega (arith, scalar_whole kind bytes c.requires.scalar)) in
-      N.RunPuts.put_cell charset kind _ _ _ c.requires.next.in_row.sink x.between (rw all at (alone.1.at_once c.requires.scalar charset)) x.takes x.place_is
-      c.put.ensures;
+      N.RunPuts.put_cell g.R.Read.remaining c.args.self.now.payload.now c.gather_scalar.new.payload charset kind c.requires.next.in_row.sink x.between
+      x.place_is (rw all at (alone.1.at_once c.requires.scalar charset)) x.takes c.put.ensures;
 }
