@@ -8,6 +8,7 @@ use N.Numbers.{Next, short_left, chunk_end, chunk_left}
 use N.Paths.{At, Halt, Path, StopsEnding, StopsField, path_both, path_stops, over, until}
 use Rattle.tds_cells.proofs.SeveralChunks.{emit_none}
 use Rattle.tds_cells.proofs.RowTexts.{line_grows, after_append}
+use Rattle.tds_columns.proofs.ByteLemmas.{split_last}
 
 -- ---- content, byte by byte
 
@@ -29,20 +30,8 @@ pub record HoldsContent (column : ℕ) (c : Conversion) (state : ℕ → List �
   pub whole : (last : Bool) (d : List ℕ) → Good d → (more : List ℕ)
       × (after_comma column (open_field c d) ++ more ≡ cell_so_far column last (state 0 d))
 
--- a list that isn't empty has a last number
-snoc_of : (l : List ℕ) → 0 < length l → (p : List ℕ) × (x : ℕ) × (l ≡ p ++ x ∷ [])
-snoc_of [] some = grind arith
-snoc_of (x ∷ []) _ = ([], x, refl)
-snoc_of (x ∷ y ∷ l) _ = let r = snoc_of _ (omega arith) in (x ∷ r.0, r.1, ap (λ t. x ∷ t) r.2)
-
-no_text_false : (c : Conversion) (l : List ℕ) {b : Bool} → N.is_begun c l ≡ b → (BeginsData c l → ⊥) → b ≡ false
-no_text_false c l is h = grind (arith, N.begun_by_test)
-
 module _ {column : ℕ} {c : Conversion} {state : ℕ → List ℕ → CellPart} {Good : List ℕ
     → Type 0} (last : Bool) (holds : HoldsContent column c state Good) where
-  pub text_at : (r : ℕ) (d : List ℕ) → cell_so_far column last (state (suc r) d) ≡ after_comma column (open_field c d)
-  text_at r d = grind arith
-
   -- the bytes of some content are elements
   pub content_spelt : (d bytes : List ℕ) (m r : ℕ) → m ≡ length bytes + r → BeginsData c (d ++ bytes) → (r ≡ 0 → 0 < length bytes → Good (d ++ bytes))
       → Spelt (cell column) (state m d) bytes (state r (d ++ bytes))
@@ -144,7 +133,7 @@ module _ {column : ℕ} {c : Conversion} {state : ℕ → List ℕ → CellPart}
 
     piece_refused : N.RefusesData c d column (suc r) a b place h i stop → Stopped false
     piece_refused x =
-        let no = no_text_false c _ refl x.no_text in
+        let no : N.is_begun c ((d ++ x.good) ++ x.bad ∷ []) ≡ false = grind (arith, N.begun_by_test) in
         rw x.stop_is (byte_refused d _ _ _ _ _ (omega arith) x.begun (holds.bad (r - length x.good) _ x.bad no) x.takes
         x.between x.puts)
 
@@ -178,7 +167,7 @@ module _ {column : ℕ} {c : Conversion} {state : ℕ → List ℕ → CellPart}
               (text_grown d x.good r (r - length x.good) x.begun) x.breaks
           | inr more ↦
               (let all : length x.good ≡ suc r = omega arith in
-              let s = snoc_of x.good (omega arith) in
+              let s = split_last r x.good (omega arith) in
               piece_broken_at x.ahead s.0 s.1 (rw s.2 at all) (rw s.2 at x.takes) x.between (rw s.2 at x.begun) (rw s.2 at x.breaks))
         ]
 
@@ -239,11 +228,10 @@ module _ {column : ℕ} {c : Conversion} {state : ℕ → List ℕ → CellPart}
         → StopsField (state m d) column last p.seen q.seen p.place p.held q.held false
         (record { fault = BadText column; place = N.Payload (q.place - 1) })
     ends_refused bad unfit =
-        let s = snoc_of _ (omega arith) in
+        let s = split_last last_left x.takes.piece (omega arith) in
         let e = d ++ x.front in
         let f = s.0 in
         let y = s.1 in
-        let len : length x.takes.piece ≡ length f + 1 = ap length s.2 ∙ N.length-append f _ in
         let same : e ++ _ ≡ _ ++ y ∷ [] = sym (append_assoc e f _) in
         let begun = rw s.2 at x.takes.begun in
         let unfit_here = rw (s.2, same) at unfit in

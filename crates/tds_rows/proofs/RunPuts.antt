@@ -85,21 +85,12 @@ module _ (h j : N.SinkView) (room written : List ℕ) (n : ℕ) (whole : length 
   abbrev lent : List ℕ
   lent = N.overwritten (length h.waiting) written (h.waiting ++ room)
 
-  before : N.take n lent ≡ h.waiting
-  before = grind (arith, N.spare_before)
-
-  after : N.drop n lent ≡ written
-  after = grind (arith, N.spare_written)
-
   abbrev lent_held : N.SinkView
   lent_held = record h { waiting = N.take n lent }
 
-  same : lent_held ≡ h
-  same = grind (arith, before)
-
   -- the text of a cell that was written there was put
   pub kept_text : (made : ℕ) → N.Puts lent_held j (N.take made (N.drop n lent)) → N.Puts h j (N.take made written)
-  kept_text _ x = grind (arith, after, same)
+  kept_text _ x = grind (arith, N.spare_before, N.spare_written)
 
 -- ---- rows
 
