@@ -1,6 +1,6 @@
 -- Chunks of a long value that lie together, one after the other: their elements, and their text.
 use Rattle.tds_rows.proofs as N
-use N.{◌≡◌, ◌∙◌, ℕ, ◌+◌, ◌-◌, ◌*◌, ◌<◌, ◌≤◌, Bool, true, List, [], ◌++◌, length, take, drop, ap, arith, Option}
+use N.{◌≡◌, ℕ, ◌+◌, ◌-◌, ◌*◌, ◌<◌, ◌≤◌, Bool, true, List, [], ◌++◌, length, take, drop, arith, Option}
 use N.Paths.{At, over}
 use Rattle.tds_rows.specs.ChunkRuns.{ChunksWritten, RunsChunks}
 use Rattle.tds_cells.proofs.GrammarTexts.{writes_both, writes_none}

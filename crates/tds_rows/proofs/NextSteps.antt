@@ -1,7 +1,7 @@
 -- The next cells of a row, those of a run or one, NULL or not, and rows one after another.
 use Rattle.tds_rows.proofs as N
 use N.{arith, ◌≡◌, ◌+◌, ◌*◌, ℕ, Bool, true, false, List, ◌∷◌, drop, refl, Err, Ok, ◌==◌, Stop, seen, Column, held, Rows, Cursor, RowPart, marked, ◌∙◌}
-use N.{◌-◌, ◌^◌, ◌≤◌, ◌<◌, [], ◌++◌, length, ap, before, PayloadView, ⊤, ◌⊎◌, inl, inr, Takes, SinkView, Puts, Charset, Cell, Kind, Knows}
+use N.{◌-◌, ◌^◌, ◌≤◌, ◌<◌, [], ◌++◌, length, ap, before, PayloadView, ⊤, ◌⊎◌, inl, Takes, SinkView, Puts, Charset, Cell, Kind, Knows}
 use N.Words.{rows}
 use N.NullSteps.{NearsCells, all_put, bitmap_cut, bitmap_nears, cell_nears, cell_stops, null_breaks, null_nears, cell_path, row_ends}
 use N.Paths.{At, Halt, halt, here, Path, RowStops, path_both, path_map, path_of, over, until}
