@@ -132,7 +132,7 @@ module _ {column place : ℕ} {a b : PayloadView} where
           some = some;
           whole = whole;
           first = first;
-          takes = grind arith;
+          takes = N.Takes-more a b ((bytes ++ element) ++ ahead) 0 _ (omega arith) (rw (sym is) at takes);
           between = between;
         },
         ap Payload place_is,

@@ -170,7 +170,7 @@ module _ {c : Conversion} {content kept : List ℕ} {p q : At} {n left : ℕ} (b
     more = x.more ++ y.piece;
     fills = fills_more c content begun few delivered x.fills y;
     counted = omega (arith, N.length-append x.more y.piece);
-    kept_is = grind (arith, N.append_assoc);
+    kept_is = y.kept_is ∙ ap (conversion_rest c) (N.append_assoc content x.more y.piece);
   }
 
   pub filled_stops : {column : ℕ} {e : N.Paths.Halt} → 0 < left → until (N.StopsData c (content ++ x.more) column left) q e

@@ -475,7 +475,11 @@ stands_first _ (N.Marked bitmap) _ is known writing kept sink start ahead read =
   omega arith,
   record {
     kept = kept;
-    reads = grind (arith, bitmap_nears);
+    reads = rw sink (λ columns knows.
+        let whole = read.0 ∙ ap N.bitmap_length knows.counted in
+        let near = bitmap_nears columns _ (omega arith) whole read.1 read.2 (writing.ready.1 writing.writing)
+        writing.ready.2 read.3 in
+        (ahead columns knows, (refl, rw (start, is) near)));
   },
 )
 
