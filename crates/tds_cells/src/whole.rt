@@ -18,7 +18,7 @@ use crate::chunks::{CHUNK_LENGTH_SIZE, LONGEST_DATA, TOTAL_SIZE, write_chunks};
 use crate::layout::{CellFormat, Layout};
 use crate::row_format::is_counted;
 use byteorder::{ByteOrder, LittleEndian};
-use tds_text::{Content, NULL_ROOM, field_room, write_field, write_null};
+use tds_text::{Content, NULL_ROOM, write_field, write_null};
 use tds_values::{
     Charset, FRONT_SIZE, INTEGER_ROOM, Kind, LONGEST_INT4, Reach, Span, ValueFault, write_front,
     write_int4, write_scalar,
@@ -41,9 +41,8 @@ pub(crate) const VALUE_ROOM: usize = 65;
 
 // Writes the field of a short value of this content, whose cell is at the front of these bytes. `None` if it isn't
 // whole, or is no text, or if there isn't the room that its text may need. Two bytes of room are left after it.
-// `TIGHT` says that text of ASCII which fits is written all the same.
 #[inline(always)]
-fn write_short<const TIGHT: bool>(content: Content, bytes: &[u8], to: &mut [u8]) -> Option<Span>
+fn write_short(content: Content, bytes: &[u8], to: &mut [u8]) -> Option<Span>
     requires room { VALUE_ROOM ≤ length to.old }
     ensures cell { LongWritten (conversion_of content) Reach.Short bytes.now (length to.old + 1) to.new result }
 {
@@ -56,7 +55,7 @@ fn write_short<const TIGHT: bool>(content: Content, bytes: &[u8], to: &mut [u8])
         return Some(Span { used: 2, made });
     }
     let used = 2 + n;
-    if bytes.len() < used || !TIGHT && to.len() < field_room(content, n) {
+    if bytes.len() < used {
         return None;
     }
     let made = write_field(content, &bytes[2..], n, to)?;
@@ -157,18 +156,13 @@ fn write_chunked(content: Content, bytes: &[u8], to: &mut [u8]) -> Option<Span>
 
 // Writes the field of a long value of this content as `write_short` and `write_chunked` do.
 #[inline(always)]
-fn write_long<const TIGHT: bool>(
-    reach: Reach,
-    content: Content,
-    bytes: &[u8],
-    to: &mut [u8],
-) -> Option<Span>
+fn write_long(reach: Reach, content: Content, bytes: &[u8], to: &mut [u8]) -> Option<Span>
     requires room { VALUE_ROOM ≤ length to.old }
     ensures cell { (charset : Charset) (kind : Kind) → shape charset kind ≡ LongShape (conversion_of content) reach →
         CellWritten charset kind bytes.now (length to.old + 1) to.new result }
 {
     match reach {
-        Reach::Short => write_short::<TIGHT>(content, bytes, to),
+        Reach::Short => write_short(content, bytes, to),
         Reach::Chunked => write_chunked(content, bytes, to),
     }
 }
@@ -200,13 +194,13 @@ pub(crate) fn write_cell<const COPY: bool>(
     ensures left { IfErr result (λ left. IsLeftFor charset format.now.kind bytes.now left) }
 {
     if let Layout::Short(content) = format.layout {
-        return write_long::<true>(Reach::Short, content, bytes, to).ok_or(Left::Long(
+        return write_long(Reach::Short, content, bytes, to).ok_or(Left::Long(
             content,
             Reach::Short,
         ));
     }
     if let Layout::Chunked(content) = format.layout {
-        return write_long::<true>(Reach::Chunked, content, bytes, to).ok_or(Left::Long(
+        return write_long(Reach::Chunked, content, bytes, to).ok_or(Left::Long(
             content,
             Reach::Chunked,
         ));
@@ -281,25 +275,13 @@ fn write_other(
         (drop at to.new) result }
 {
     match format.kind {
-        Kind::Binary(reach) => {
-            write_long::<false>(reach, Content::Binary, &bytes[from..], &mut to[at..])
-        }
-        Kind::Wide(reach) => write_long::<false>(
-            reach,
-            Content::Utf16,
-            &bytes[from..],
-            &mut to[at..],
-        ),
+        Kind::Binary(reach) => { write_long(reach, Content::Binary, &bytes[from..], &mut to[at..]) }
+        Kind::Wide(reach) => write_long(reach, Content::Utf16, &bytes[from..], &mut to[at..]),
         Kind::Narrow(reach) => match charset {
             Charset::Windows1252 => {
-                write_long::<false>(reach, Content::Windows1252, &bytes[from..], &mut to[at..])
+                write_long(reach, Content::Windows1252, &bytes[from..], &mut to[at..])
             }
-            Charset::Utf8 => write_long::<false>(
-                reach,
-                Content::Utf8,
-                &bytes[from..],
-                &mut to[at..],
-            ),
+            Charset::Utf8 => write_long(reach, Content::Utf8, &bytes[from..], &mut to[at..]),
         },
         _ => write_no_value(format, charset, &bytes[from..], &mut to[at..]),
     }

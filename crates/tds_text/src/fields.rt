@@ -152,7 +152,8 @@ fn write_utf8(source: &[u8], n: usize, to: &mut [u8]) -> Option<usize>
 /// digits, or the text in quotes. Returns how many bytes it has, or `None` if the data isn't whole: an odd
 /// number of bytes in UTF-16, or bytes that are no UTF-8; or if it may want more room. Text of ASCII is
 /// written with less, a byte for each character and 50 to spare, in UTF-16 from 16 characters on; so is
-/// other text, if any has room from some place on.
+/// other text, if any has room from some place on, in UTF-16 where most of the first eight units have a byte
+/// of text each.
 #[inline(always)]
 pub fn write_field(content: Content, source: &[u8], n: usize, to: &mut [u8]) -> Option<usize>
     requires within { n ≤ length source.now }
@@ -162,7 +163,7 @@ pub fn write_field(content: Content, source: &[u8], n: usize, to: &mut [u8]) -> 
         ⊎ ((result ≡ None) × (length to.old < field_room (conversion_of content) n)) }
 {
     if to.len() < field_room(content, n) {
-        return write_tight(content, source, n, to);
+        return write_tight(source, n, to, content);
     }
     match content {
         Content::Binary => Some(write_binary(source, n, to)),

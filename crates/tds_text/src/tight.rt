@@ -143,7 +143,7 @@ fn write_utf8(source: &[u8], n: usize, to: &mut [u8]) -> Option<usize>
 /// Writes the field of a whole value as [`write_field`](crate::write_field) does, for which there isn't the room that any text
 /// may want. `None` for data other than such text, and if that doesn't fit either.
 #[inline(never)]
-pub(crate) fn write_tight(content: Content, source: &[u8], n: usize, to: &mut [u8]) -> Option<usize>
+pub(crate) fn write_tight(source: &[u8], n: usize, to: &mut [u8], content: Content) -> Option<usize>
     requires within { n ≤ length source.now }
     ensures most { IfSome result (λ made. made + 2 ≤ length to.old) }
     ensures field { IfSome result (λ made. FieldWritten (conversion_of content) (take n source.now) to.new (Some made)) }
