@@ -32,8 +32,11 @@ use tds_packet::{Payload, Stop};
 use tds_text::Content;
 use tds_values::{Kind, Reach, ValueFault};
 
-/// The room for the text of a run that may go over the end of a block, or of a cell that no run took.
+/// The room for the text of a run that may go over the end of a block.
 const SCRATCH: usize = 256;
+
+/// The room for the text of a cell that no run took.
+const CELL_SCRATCH: usize = 1024;
 
 /// The room in a block in which no run is begun, since its cells may want more: it goes on with a small text.
 const BLOCK_END: usize = 128;
@@ -136,7 +139,7 @@ impl<'r, 't, 'p, 's, 'c, R: Read, W: Write> Rows<'r, 't, 'p, 's, 'c, R, W> {
         requires { IsAtCell self.old at format.now }
         ensures { CellRead R.remaining W.contents at.entry format.now.kind self.old self.new result }
     {
-        let mut text = [0u8; SCRATCH];
+        let mut text = [0u8; CELL_SCRATCH];
         let bytes = self.payload.buffered();
         match self.row_format.write_one(at, format, bytes, &mut text) {
             Ok(cell) => {
