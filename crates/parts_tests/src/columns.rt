@@ -95,42 +95,6 @@ fn read_returned<R: Read>(payload: &mut Payload<R>, small: &mut Area) -> Result<
     read_type_info(payload, small)
 }
 
-// Two columns of this type information, which may end with a collation, and a returned value of it.
-fn check_kind<'a>(
-    alloc: Global,
-    what: &str,
-    info: &'a [u8],
-    collation: &'a [u8],
-    kind: Kind,
-) -> Result<(), Fail> {
-    let head: &[u8] = &[0; 6];
-    let name: &[u8] = &[1, 0x61, 0];
-    let pieces = [
-        &[2, 0],
-        head,
-        info,
-        collation,
-        name,
-        head,
-        info,
-        collation,
-        name,
-        &[1],
-        head,
-        info,
-        collation,
-    ];
-    let wire = wire_of(alloc, &pieces)?;
-    let mut from = Counted::new(ScriptedReader::new(&wire, 5));
-    let mut packet = Area::new(alloc, 512)?;
-    let mut area = new_area(alloc, ROOM)?;
-    let mut small = new_area(alloc, 128)?;
-    let mut payload = Payload::new(&mut from, &mut packet, MAX_WIRE);
-    let columns = read_columns(&mut payload, &mut area, kind, NAME);
-    let returned = read_returned(&mut payload, &mut small);
-    same(what, &(columns, returned), &(Ok((2, 2)), Ok(kind)))
-}
-
 // A type of the profile, the bytes of its type information, and its kind.
 struct Known(&'static str, &'static [u8], Kind);
 
@@ -146,8 +110,8 @@ const NUMERIC_38_37: Kind = Kind::Decimal {
     scale: 37,
 };
 
-// Types without a collation.
-const KNOWN: [Known; 24] = [
+// Each type byte of the profile. The type information of text ends with a collation.
+const KNOWN: [Known; 30] = [
     Known("tinyint", &[0x30], Kind::Int1),
     Known("bit", &[0x32], Kind::Bit),
     Known("smallint", &[0x34], Kind::Int2),
@@ -176,87 +140,137 @@ const KNOWN: [Known; 24] = [
         &[0xAD, 0xFE, 0xFF],
         Kind::Binary(Short),
     ),
+    Known(
+        "varchar(10)",
+        &[0xA7, 10, 0, 9, 4, 0xD0, 0, 0x34],
+        Kind::Narrow(Short),
+    ),
+    Known(
+        "varchar(max)",
+        &[0xA7, 0xFF, 0xFF, 9, 4, 0xD0, 0, 0x34],
+        Kind::Narrow(Chunked),
+    ),
+    Known(
+        "char(255)",
+        &[0xAF, 0xFF, 0, 9, 4, 0xD0, 0, 0x34],
+        Kind::Narrow(Short),
+    ),
+    Known(
+        "nvarchar(10)",
+        &[0xE7, 20, 0, 9, 4, 0xD0, 0, 0x34],
+        Kind::Wide(Short),
+    ),
+    Known(
+        "nvarchar(max)",
+        &[0xE7, 0xFF, 0xFF, 9, 4, 0xD0, 0, 0x34],
+        Kind::Wide(Chunked),
+    ),
+    Known(
+        "a long nchar",
+        &[0xEF, 0, 0xFF, 9, 4, 0xD0, 0, 0x34],
+        Kind::Wide(Short),
+    ),
 ];
 
-// Types of text, whose type information ends with a collation.
-const KNOWN_TEXTS: [Known; 6] = [
-    Known("varchar(10)", &[0xA7, 10, 0], Kind::Narrow(Short)),
-    Known("varchar(max)", &[0xA7, 0xFF, 0xFF], Kind::Narrow(Chunked)),
-    Known("char(255)", &[0xAF, 0xFF, 0], Kind::Narrow(Short)),
-    Known("nvarchar(10)", &[0xE7, 20, 0], Kind::Wide(Short)),
-    Known("nvarchar(max)", &[0xE7, 0xFF, 0xFF], Kind::Wide(Chunked)),
-    Known("a long nchar", &[0xEF, 0, 0xFF], Kind::Wide(Short)),
-];
+// Two columns of a type, and a returned value of it.
+fn check_known(alloc: Global, known: &Known) -> Result<(), Fail> {
+    let Known(what, info, kind) = known;
+    let head: &[u8] = &[0; 6];
+    let name: &[u8] = &[1, 0x61, 0];
+    let pieces = [
+        &[2, 0],
+        head,
+        info,
+        name,
+        head,
+        info,
+        name,
+        &[1],
+        head,
+        info,
+    ];
+    let wire = wire_of(alloc, &pieces)?;
+    let mut from = Counted::new(ScriptedReader::new(&wire, 5));
+    let mut packet = Area::new(alloc, 512)?;
+    let mut area = new_area(alloc, ROOM)?;
+    let mut small = new_area(alloc, 128)?;
+    let mut payload = Payload::new(&mut from, &mut packet, MAX_WIRE);
+    let columns = read_columns(&mut payload, &mut area, *kind, NAME);
+    let returned = read_returned(&mut payload, &mut small);
+    same(what, &(columns, returned), &(Ok((2, 2)), Ok(*kind)))
+}
 
-const COLLATION: &[u8] = &[9, 4, 0xD0, 0, 0x34];
-
-// Each type byte of the profile.
 #[test]
 fn types_are_known(rt: HostRuntime) -> Result<(), Fail> {
-    for Known(what, info, kind) in &KNOWN {
-        check_kind(rt.alloc(), what, info, &[], *kind)?;
-    }
-    for Known(what, info, kind) in &KNOWN_TEXTS {
-        check_kind(rt.alloc(), what, info, COLLATION, *kind)?;
+    for known in &KNOWN {
+        check_known(rt.alloc(), known)?;
     }
     Ok(())
 }
 
-// What comes of a description in a room, and how many bytes of it the area keeps.
-#[derive(Drop)]
+// A description, the room that it has, what comes of it, and what the area keeps.
 struct Roomed {
     what: &'static str,
     payload: &'static [u8],
     room: usize,
-    answer: Result<(u16, usize), (Fault, u64)>,
-    kept: usize,
+    answer: Result<(u16, usize), Stop>,
+    kept: &'static [u8],
 }
 
-// A description of so many ints, in the room that it needs.
-const fn fits(what: &'static str, payload: &'static [u8], columns: u16) -> Roomed {
+// Rooms below the least that the limits allow among them. Of what is refused the whole elements before it are kept.
+const ROOMS: [Roomed; 6] = [
     Roomed {
-        what,
-        payload,
-        room: payload.len(),
-        answer: Ok((columns, columns as usize)),
-        kept: payload.len(),
-    }
-}
-
-// A description that is refused at a place: the bytes before it are kept.
-const fn refused(
-    what: &'static str,
-    payload: &'static [u8],
-    room: usize,
-    fault: Fault,
-    place: usize,
-) -> Roomed {
+        what: "an int",
+        payload: ONE_INT,
+        room: 12,
+        answer: Ok((1, 1)),
+        kept: ONE_INT,
+    },
     Roomed {
-        what,
-        payload,
-        room,
-        answer: Err((fault, place as u64)),
-        kept: place,
-    }
-}
-
-// Rooms below the least that the limits allow among them.
-fn rooms() -> [Roomed; 6] {
-    [
-        fits("an int", ONE_INT, 1),
-        fits("two ints", TWO_INTS, 2),
-        refused("a name", ONE_INT, 11, Fault::DescriptionTooLong, 9),
-        refused("a Count", ONE_INT, 9, Fault::DescriptionTooLong, 0),
-        refused("no columns", &[0, 0], 2, Fault::NoColumns, 0),
-        Roomed {
-            what: "no metadata",
-            payload: &[0xFF, 0xFF],
-            room: 2,
-            answer: Ok((0, 0)),
-            kept: 0,
-        },
-    ]
-}
+        what: "two ints",
+        payload: TWO_INTS,
+        room: 22,
+        answer: Ok((2, 2)),
+        kept: TWO_INTS,
+    },
+    Roomed {
+        what: "a name",
+        payload: ONE_INT,
+        room: 11,
+        answer: Err(Stop {
+            fault: Fault::DescriptionTooLong,
+            place: Place::Payload(9),
+        }),
+        kept: &[1, 0, 0, 0, 0, 0, 8, 0, 0x38],
+    },
+    Roomed {
+        what: "a Count",
+        payload: ONE_INT,
+        room: 9,
+        answer: Err(Stop {
+            fault: Fault::DescriptionTooLong,
+            place: Place::Payload(0),
+        }),
+        kept: &[],
+    },
+    Roomed {
+        what: "no columns",
+        payload: &[0, 0],
+        room: 2,
+        answer: Err(Stop {
+            fault: Fault::NoColumns,
+            place: Place::Payload(0),
+        }),
+        kept: &[],
+    },
+    Roomed {
+        what: "no metadata",
+        payload: &[0xFF, 0xFF],
+        room: 2,
+        answer: Ok((0, 0)),
+        kept: &[],
+    },
+];
 
 fn check_room(alloc: Global, row: &Roomed) -> Result<(), Fail> {
     let wire = wire_of(alloc, &[row.payload])?;
@@ -265,35 +279,27 @@ fn check_room(alloc: Global, row: &Roomed) -> Result<(), Fail> {
     let mut area = new_area(alloc, row.room.max(2).min(ROOM))?;
     let mut payload = Payload::new(&mut from, &mut packet, MAX_WIRE);
     let came = read_columns(&mut payload, &mut area, Kind::Int4, NAME);
-    let want = match row.answer {
-        Ok(columns) => Ok(columns),
-        Err((fault, place)) => Err(Stop {
-            fault,
-            place: Place::Payload(place),
-        }),
-    };
-    same(row.what, &came, &want)?;
-    same(
-        row.what,
-        &area.bytes(),
-        &row.payload.split_at(row.kept.min(row.payload.len())).0,
-    )
+    same(row.what, &(came, area.bytes()), &(row.answer, row.kept))
 }
 
 #[test]
 fn rooms_are_kept(rt: HostRuntime) -> Result<(), Fail> {
-    for row in &rooms() {
+    for row in &ROOMS {
         check_room(rt.alloc(), row)?;
     }
     Ok(())
 }
 
-// As many ints as a description can have, without names, each in a packet of its own.
+// A packet of the Count of 65,534 columns, and one of an int without a name.
+const MOST_COLUMNS: &[u8] = &[0x04, 0, 0, 0x0A, 0, 0, 1, 0, 0xFE, 0xFF];
+
+const NAMELESS_INT: &[u8] = &[0x04, 0, 0, 0x10, 0, 0, 1, 0, 0, 0, 0, 0, 0, 0, 0x38, 0];
+
+// As many ints as a description can have, each in a packet of its own.
 #[test]
 fn the_most_columns_are_walked(rt: HostRuntime) -> Result<(), Fail> {
-    let count = [0x04, 0, 0, 0x0A, 0, 0, 1, 0, 0xFE, 0xFF];
-    let column = [0x04, 0, 0, 0x10, 0, 0, 1, 0, 0, 0, 0, 0, 0, 0, 0x38, 0];
-    let mut from = Counted::new(RepeatingReader::new(&count, &column, 65_534, &[]));
+    let reader = RepeatingReader::new(MOST_COLUMNS, NAMELESS_INT, 65_534, &[]);
+    let mut from = Counted::new(reader);
     let mut packet = Area::new(rt.alloc(), 512)?;
     let mut area = new_area(rt.alloc(), 524_274)?;
     let mut payload = Payload::new(&mut from, &mut packet, MAX_WIRE);
