@@ -1,5 +1,6 @@
 // Areas and limits with ample memory.
-use crate::checks::expect;
+use crate::checks::{expect, same};
+use std::alloc::Global;
 use std::mem::swap;
 use std::process::Abort;
 use std::test::Fail;
@@ -24,43 +25,63 @@ fn accepts_the_edges_of_each_range(rt: HostRuntime) -> Result<(), Fail> {
     Ok(())
 }
 
-// The first number that is out of its range, its fault and the fault's text.
-#[test]
-fn names_the_first_number_out_of_its_range(rt: HostRuntime) {
-    let packet = (
+// Numbers of limits, and the fault of the first one that is out of its range.
+struct Refused(&'static str, (u16, u32, u64), LimitFault);
+
+// A number past the greatest wire limit.
+const PAST: u64 = 72_057_594_037_927_937;
+
+const REFUSED: [Refused; 10] = [
+    Refused("a small packet size", (511, 10, 8), LimitFault::PacketSize),
+    Refused(
+        "a large packet size",
+        (32_768, 10, 8),
         LimitFault::PacketSize,
-        "the packet size isn't 512 to 32,767",
-    );
-    let column = (
+    ),
+    Refused("a small column room", (512, 9, 8), LimitFault::ColumnRoom),
+    Refused(
+        "a large column room",
+        (512, 67_108_865, 8),
         LimitFault::ColumnRoom,
-        "the column room isn't 10 to 67,108,864 bytes",
-    );
-    let wire = (
-        LimitFault::MaxWire,
-        "the wire limit isn't 8 to 72,057,594,037,927,936 bytes",
-    );
-    let past = 72_057_594_037_927_937;
-    for (what, packet_size, column_room, max_wire, (fault, text)) in [
-        ("a small packet size", 511, 10, 8, packet),
-        ("a large packet size", 32_768, 10, 8, packet),
-        ("a small column room", 512, 9, 8, column),
-        ("a large column room", 512, 67_108_865, 8, column),
-        ("a small wire limit", 512, 10, 7, wire),
-        ("a large wire limit", 512, 10, past, wire),
-        ("three zeros", 0, 0, 0, packet),
-        ("each too large", 65_535, 4_294_967_295, u64::MAX, packet),
-        ("two zeros", 512, 0, 0, column),
-        ("two too large", 32_767, 67_108_865, past, column),
-    ] {
-        match Limits::new(packet_size, column_room, max_wire) {
-            Ok(_) => expect(&rt, what, false),
-            Err(given) => {
-                expect(&rt, what, given == fault);
-                let shown = format!(in rt.alloc(); "{given}").expect(&rt, "ample memory");
-                expect(&rt, what, shown.as_str() == text);
-            }
-        }
+    ),
+    Refused("a small wire limit", (512, 10, 7), LimitFault::MaxWire),
+    Refused("a large wire limit", (512, 10, PAST), LimitFault::MaxWire),
+    Refused("three zeros", (0, 0, 0), LimitFault::PacketSize),
+    Refused(
+        "each too large",
+        (65_535, 4_294_967_295, u64::MAX),
+        LimitFault::PacketSize,
+    ),
+    Refused("two zeros", (512, 0, 0), LimitFault::ColumnRoom),
+    Refused(
+        "two too large",
+        (32_767, 67_108_865, PAST),
+        LimitFault::ColumnRoom,
+    ),
+];
+
+fn text_of(fault: LimitFault) -> &'static str {
+    match fault {
+        LimitFault::PacketSize => "the packet size isn't 512 to 32,767",
+        LimitFault::ColumnRoom => "the column room isn't 10 to 67,108,864 bytes",
+        LimitFault::MaxWire => "the wire limit isn't 8 to 72,057,594,037,927,936 bytes",
     }
+}
+
+fn check_refused(alloc: Global, row: &Refused) -> Result<(), Fail> {
+    let Refused(what, (packet_size, column_room, max_wire), fault) = row;
+    let came = Limits::new(*packet_size, *column_room, *max_wire).err();
+    same(what, &came, &Some(*fault))?;
+    let shown = format!(in alloc; "{fault}")?;
+    same(what, &shown.as_str(), &text_of(*fault))
+}
+
+#[test]
+fn names_the_first_number_out_of_its_range(rt: HostRuntime) -> Result<(), Fail> {
+    for row in &REFUSED {
+        check_refused(rt.alloc(), row)?;
+    }
+    Ok(())
 }
 
 // What an area of room 6 holds, and its peak.
@@ -154,6 +175,17 @@ fn an_area_lends_its_end(rt: HostRuntime) -> Result<(), Fail> {
     Ok(())
 }
 
+// The areas of these limits.
+fn areas_of(
+    alloc: Global,
+    packet_size: u16,
+    column_room: u32,
+    max_wire: u64,
+) -> Result<Areas, Fail> {
+    let limits = Limits::new(packet_size, column_room, max_wire)?;
+    Ok(Areas::new(alloc, limits)?)
+}
+
 // What is held, by the description too, and the most of that and of the others.
 fn meters(areas: &Areas) -> (u64, u64, u64, u64) {
     (
@@ -179,8 +211,7 @@ fn rooms(areas: &Areas) -> [usize; 6] {
 // The lengths are such that no two sums of them are the same.
 #[test]
 fn areas_count_what_they_hold(rt: HostRuntime) -> Result<(), Fail> {
-    let limits = Limits::new(512, 10, 8)?;
-    let mut areas = Areas::new(rt.alloc(), limits)?;
+    let mut areas = areas_of(rt.alloc(), 512, 10, 8)?;
     assert!(rt; areas.limits().packet_size() == 512);
     assert!(rt; (meters(&areas), areas.restarts()) == ((0, 0, 0, 0), 0));
     assert!(rt; rooms(&areas) == [512, 10, 65_536, 4_096, 512, 128]);
@@ -205,8 +236,7 @@ fn areas_count_what_they_hold(rt: HostRuntime) -> Result<(), Fail> {
 // Two areas of equal rooms may be exchanged, others not.
 #[test]
 fn exchanged_areas_are_not_intact(rt: HostRuntime) -> Result<(), Fail> {
-    let limits = Limits::new(4_096, 65_536, 8)?;
-    let mut areas = Areas::new(rt.alloc(), limits)?;
+    let mut areas = areas_of(rt.alloc(), 4_096, 65_536, 8)?;
     swap(&mut areas.packet, &mut areas.output);
     assert!(rt; areas.intact());
     swap(&mut areas.notice, &mut areas.small);
@@ -220,8 +250,7 @@ fn exchanged_areas_are_not_intact(rt: HostRuntime) -> Result<(), Fail> {
 #[test]
 fn the_greatest_rooms_are_had(rt: HostRuntime) -> Result<(), Fail> {
     let (packet_size, column_room, max_wire) = GREATEST;
-    let limits = Limits::new(packet_size, column_room, max_wire)?;
-    let areas = Areas::new(rt.alloc(), limits)?;
+    let areas = areas_of(rt.alloc(), packet_size, column_room, max_wire)?;
     assert!(rt; areas.intact());
     assert!(rt; Area::new(rt.alloc(), 0)?.room() == 0);
     Ok(())
