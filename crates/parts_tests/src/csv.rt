@@ -146,10 +146,9 @@ fn the_first_bad_byte_is_told(rt: HostRuntime) -> Result<(), Fail> {
     same("an odd byte", &came, &(Err(JoinFault::Odd), true))
 }
 
-// Puts NULL, a number and binary data as one line, and text as another.
-fn put_two_lines<W: Write>(sink: &mut Sink<'_, W>) -> Result<(), Stop>
+// Delivers NULL, a number and binary data as one line, and text as another, and answers how many bytes waited before.
+fn deliver_two_lines<W: Write>(sink: &mut Sink<'_, W>) -> Result<u64, Stop>
     requires { IsReady sink.old }
-    ensures { IsReady sink.new }
 {
     sink.null()?;
     sink.comma()?;
@@ -161,7 +160,10 @@ fn put_two_lines<W: Write>(sink: &mut Sink<'_, W>) -> Result<(), Stop>
     sink.open_quoted()?;
     sink.put(b"a")?;
     sink.close_quoted()?;
-    sink.line_end()
+    sink.line_end()?;
+    let waiting = sink.waiting();
+    sink.finish()?;
+    Ok(waiting)
 }
 
 #[test]
@@ -169,9 +171,7 @@ fn the_fields_of_two_lines(rt: HostRuntime) -> Result<(), Fail> {
     let mut area = Area::new(rt.alloc(), 4096)?;
     let mut to = make_writer(Failing::Never);
     let mut sink = Sink::new(&mut to, &mut area);
-    put_two_lines(&mut sink)?;
-    let waiting = sink.waiting();
-    sink.finish()?;
+    let waiting = deliver_two_lines(&mut sink)?;
     assert!(rt; (waiting, sink.delivered()) == (25, 25));
     assert!(rt; to.device().kept() == b"NULL,-12.50,0x0aff\r\n\"a\"\r\n".as_slice());
     Ok(())
@@ -180,7 +180,6 @@ fn the_fields_of_two_lines(rt: HostRuntime) -> Result<(), Fail> {
 // Puts a pair in three pieces, and answers how many bytes wait after each.
 fn put_pair<W: Write>(sink: &mut Sink<'_, W>) -> Result<(u64, u64, u64), JoinFault>
     requires { IsReady sink.old }
-    ensures { IsReady sink.new }
 {
     let mut joiner = Utf16Joiner::new();
     joiner.push(b"\x3D", sink)?;
@@ -417,72 +416,84 @@ fn text_is_written_into_the_room(rt: HostRuntime) -> Result<(), Fail> {
     Ok(())
 }
 
-// A character in UTF-16, low byte first, and its text.
+// A character in UTF-16, low byte first, or another byte, and its text.
 struct Spelt {
-    units: &'static [u8],
-    text: &'static str,
+    what: &'static str,
+    bytes: &'static [u8],
+    text: &'static [u8],
 }
 
 // Characters of one byte, two and three.
 const FILLS: [Spelt; 3] = [
     Spelt {
-        units: b"\x61\x00",
-        text: "a",
+        what: "a",
+        bytes: b"\x61\x00",
+        text: b"a",
     },
     Spelt {
-        units: b"\x4F\x04",
-        text: "\u{44F}",
+        what: "U+044F",
+        bytes: b"\x4F\x04",
+        text: b"\xD1\x8F",
     },
     Spelt {
-        units: b"\x71\x67",
-        text: "\u{6771}",
+        what: "U+6771",
+        bytes: b"\x71\x67",
+        text: b"\xE6\x9D\xB1",
     },
 ];
 
 // What stands among them: a quote, other characters, a pair, and each half of one alone.
 const AMONG: [Spelt; 8] = [
     Spelt {
-        units: b"\x22\x00",
-        text: "\"\"",
+        what: "a quote",
+        bytes: b"\x22\x00",
+        text: b"\"\"",
     },
     Spelt {
-        units: b"\x7F\x00",
-        text: "\u{7F}",
+        what: "U+007F",
+        bytes: b"\x7F\x00",
+        text: b"\x7F",
     },
     Spelt {
-        units: b"\x80\x00",
-        text: "\u{80}",
+        what: "U+0080",
+        bytes: b"\x80\x00",
+        text: b"\xC2\x80",
     },
     Spelt {
-        units: b"\xFF\x07",
-        text: "\u{7FF}",
+        what: "U+07FF",
+        bytes: b"\xFF\x07",
+        text: b"\xDF\xBF",
     },
     Spelt {
-        units: b"\x00\x08",
-        text: "\u{800}",
+        what: "U+0800",
+        bytes: b"\x00\x08",
+        text: b"\xE0\xA0\x80",
     },
     Spelt {
-        units: b"\x3D\xD8\x00\xDE",
-        text: "\u{1F600}",
+        what: "U+1F600",
+        bytes: b"\x3D\xD8\x00\xDE",
+        text: b"\xF0\x9F\x98\x80",
     },
     Spelt {
-        units: b"\xFF\xDB",
-        text: "\u{FFFD}",
+        what: "a high surrogate",
+        bytes: b"\xFF\xDB",
+        text: b"\xEF\xBF\xBD",
     },
     Spelt {
-        units: b"\x00\xDC",
-        text: "\u{FFFD}",
+        what: "a low surrogate",
+        bytes: b"\x00\xDC",
+        text: b"\xEF\xBF\xBD",
     },
 ];
 
-// So many characters, another, and so many again.
+// So many bytes or characters, another, and so many again.
 fn around(
     alloc: Global,
     fill: &[u8],
     before: usize,
     one: &[u8],
     after: usize,
-) -> Result<Vec<u8>, Fail> {
+) -> Result<Vec<u8>, AllocError> {
     let mut all = Vec::new(alloc);
     for _ in 0..before {
         all.extend_from_slice(fill)?;
@@ -494,8 +505,32 @@ fn around(
     Ok(all)
 }
 
-// A character after `before` others, with `after` behind it: the joiner in two pieces cut anywhere, and the field of
-// the value before eight units more.
+// The joiner has the text of units in two pieces that are cut anywhere.
+fn check_pieces(alloc: Global, what: &str, units: &[u8], text: &[u8]) -> Result<(), Fail> {
+    for cut in 0..=units.len() {
+        let (a, b) = units.split_at(cut);
+        let came = joined::<Utf16Joiner>(alloc, (a, b, b""), text)?;
+        same(what, &came, &(Ok(()), true))?;
+    }
+    Ok(())
+}
+
+// The field of a value before other bytes has this text between its quotes.
+fn check_field(
+    alloc: Global,
+    what: &str,
+    units: &[u8],
+    others: &[u8],
+    text: &[u8],
+) -> Result<(), Fail> {
+    let source = around(alloc, units, 1, others, 0)?;
+    let field = around(alloc, b"\"", 1, text, 1)?;
+    let mut room = [0; 128];
+    let came = field_of(Content::Utf16, &source, units.len(), &mut room);
+    same(what, &came, &Some(&field[..]))
+}
+
+// A character after `before` others, with `after` behind it, in pieces, and as the field of a value before eight units more.
 fn check_lane(
     alloc: Global,
     fill: &Spelt,
@@ -503,25 +538,11 @@ fn check_lane(
     before: usize,
     after: usize,
 ) -> Result<(), Fail> {
-    let units = around(alloc, fill.units, before, one.units, after)?;
-    let text = around(
-        alloc,
-        fill.text.as_bytes(),
-        before,
-        one.text.as_bytes(),
-        after,
-    )?;
-    for cut in 0..=units.len() {
-        let (a, b) = units.split_at(cut);
-        let came = joined::<Utf16Joiner>(alloc, (a, b, b""), &text)?;
-        same(one.text, &came, &(Ok(()), true))?;
-    }
-    let mut source = around(alloc, &units, 1, b"", 0)?;
-    source.extend_from_slice(&around(alloc, fill.units, 8, b"", 0)?)?;
-    let mut room = [0; 128];
-    let field = around(alloc, b"\"", 1, &text, 1)?;
-    let came = field_of(Content::Utf16, &source, units.len(), &mut room);
-    same(one.text, &came, &Some(&field[..]))
+    let units = around(alloc, fill.bytes, before, one.bytes, after)?;
+    let text = around(alloc, fill.text, before, one.text, after)?;
+    check_pieces(alloc, one.what, &units, &text)?;
+    let others = around(alloc, fill.bytes, 8, b"", 0)?;
+    check_field(alloc, one.what, &units, &others, &text)
 }
 
 #[test]
@@ -540,30 +561,63 @@ fn each_unit_of_eight_may_be_of_any_kind(rt: HostRuntime) -> Result<(), Fail> {
 // A byte after `before` others, with `after` behind it, and its text among theirs.
 fn check_byte<J: Joiner + Drop>(
     alloc: Global,
-    fill: (&[u8], &[u8]),
+    fill: &Spelt,
     before: usize,
-    one: (&[u8], &[u8]),
+    one: &Spelt,
     after: usize,
 ) -> Result<(), Fail> {
-    let bytes = around(alloc, fill.0, before, one.0, after)?;
-    let text = around(alloc, fill.1, before, one.1, after)?;
+    let bytes = around(alloc, fill.bytes, before, one.bytes, after)?;
+    let text = around(alloc, fill.text, before, one.text, after)?;
     let came = joined::<J>(alloc, (&bytes, b"", b""), &text)?;
-    same("a byte among 32", &came, &(Ok(()), true))
+    same(one.what, &came, &(Ok(()), true))
+}
+
+const LETTER: Spelt = Spelt {
+    what: "a letter",
+    bytes: b"a",
+    text: b"a",
+};
+
+const QUOTE: Spelt = Spelt {
+    what: "a quote among 32",
+    bytes: b"\"",
+    text: b"\"\"",
+};
+
+const EURO: Spelt = Spelt {
+    what: "a euro sign among 32",
+    bytes: b"\x80",
+    text: b"\xE2\x82\xAC",
+};
+
+const A5: Spelt = Spelt {
+    what: "a5",
+    bytes: b"\xA5",
+    text: b"a5",
+};
+
+const OTHER_BYTE: Spelt = Spelt {
+    what: "3c among a5",
+    bytes: b"\x3C",
+    text: b"3c",
+};
+
+// A quote and a euro sign after `before` letters, with others behind them.
+fn check_texts(alloc: Global, before: usize) -> Result<(), Fail> {
+    check_byte::<Cp1252Joiner>(alloc, &LETTER, before, &QUOTE, 170)?;
+    check_byte::<Cp1252Joiner>(alloc, &LETTER, before, &EURO, 170)?;
+    check_byte::<Utf8Joiner>(alloc, &LETTER, before, &QUOTE, 170)
 }
 
 // At each lane of 32 bytes, in front of a value and where a block ends.
 #[test]
 fn each_byte_of_32_may_be_of_any_kind(rt: HostRuntime) -> Result<(), Fail> {
     let alloc = rt.alloc();
-    let letter: (&[u8], &[u8]) = (b"a", b"a");
     for lane in 0..=66 {
-        for before in [lane, 3900 + lane] {
-            check_byte::<Cp1252Joiner>(alloc, letter, before, (b"\"", b"\"\""), 170)?;
-            check_byte::<Cp1252Joiner>(alloc, letter, before, (b"\x80", b"\xE2\x82\xAC"), 170)?;
-            check_byte::<Utf8Joiner>(alloc, letter, before, (b"\"", b"\"\""), 170)?;
-        }
-        check_byte::<HexJoiner>(alloc, (b"\xA5", b"a5"), lane, (b"\x3C", b"3c"), 1)?;
-        check_byte::<HexJoiner>(alloc, (b"\xA5", b"a5"), 2000, (b"\x3C", b"3c"), lane)?;
+        check_texts(alloc, lane)?;
+        check_texts(alloc, 3900 + lane)?;
+        check_byte::<HexJoiner>(alloc, &A5, lane, &OTHER_BYTE, 1)?;
+        check_byte::<HexJoiner>(alloc, &A5, 2000, &OTHER_BYTE, lane)?;
     }
     Ok(())
 }
