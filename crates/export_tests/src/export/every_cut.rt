@@ -227,17 +227,24 @@ fn devices_fail_after_each_byte(rt: HostRuntime) -> Result<(), Fail> {
     Ok(())
 }
 
-// Read and written one byte at a time.
+// A ROW in packets of one byte, with these bytes between each two of them, read and written one byte at a time.
+fn check_single_bytes(
+    alloc: Global,
+    areas: &mut Areas,
+    what: &str,
+    between: &[u8],
+) -> Result<(), Fail> {
+    let mut wire = wire_of(alloc, &ONE_INT, between)?;
+    mark_last(&mut wire);
+    let from = ScriptedReader::new(&wire, 1);
+    let to = ScriptedWriter::new(1, Failing::Never);
+    let out = run(areas, from, to, Charset::Windows1252, TEXT);
+    same(what, &out, &Some(came_to(Ok(report(1, 1, 9)), TEXT)))
+}
+
 #[test]
 fn packets_of_one_byte_have_one_text(rt: HostRuntime) -> Result<(), Fail> {
     let mut areas = make_areas(rt.alloc(), PACKET_SIZE)?;
-    for (what, between) in [("alone", NOTHING), ("among empty ones", EMPTY)] {
-        let mut wire = wire_of(rt.alloc(), &ONE_INT, between)?;
-        mark_last(&mut wire);
-        let from = ScriptedReader::new(&wire, 1);
-        let to = ScriptedWriter::new(1, Failing::Never);
-        let out = run(&mut areas, from, to, Charset::Windows1252, TEXT);
-        same(what, &out, &Some(came_to(Ok(report(1, 1, 9)), TEXT)))?;
-    }
-    Ok(())
+    check_single_bytes(rt.alloc(), &mut areas, "alone", NOTHING)?;
+    check_single_bytes(rt.alloc(), &mut areas, "among empty ones", EMPTY)
 }
