@@ -330,36 +330,3 @@ fn the_longest_description_is_held(rt: HostRuntime) -> Result<(), Fail> {
     let held = (areas.description_held(), areas.description_peak());
     same("its description", &held, &(524_274, 524_274))
 }
-
-// A value of varbinary(max) and of 100,000,000 bytes that a procedure returned, up to its first chunk; and the
-// terminator and a DONE.
-const RETURNED: &[u8] = &[
-    0x04, 0x00, 0x00, 0x1E, 0x00, 0x00, 0x01, 0x00, 0xAC, 0x00, 0x00, 0x00, 0x01, 0x00, 0x00, 0x00,
-    0x00, 0x00, 0x00, 0xA5, 0xFF, 0xFF, 0x00, 0xE1, 0xF5, 0x05, 0x00, 0x00, 0x00, 0x00,
-];
-
-const TERMINATOR: &[u8] = &[
-    0x04, 0x01, 0x00, 0x19, 0x00, 0x00, 0x01, 0x00, 0, 0, 0, 0, 0xFD, 0, 0, 0, 0, 0, 0, 0, 0, 0, 0,
-    0, 0,
-];
-
-// Each packet but the first and the last has one chunk of 500 bytes.
-#[test]
-fn a_value_of_many_chunks_is_passed_over(rt: HostRuntime) -> Result<(), Fail> {
-    let mut areas = make_areas(rt.alloc(), 512)?;
-    let mut chunk = [0x22; 512];
-    chunk[..12].copy_from_slice(&[4, 0, 2, 0, 0, 0, 1, 0, 0xF4, 1, 0, 0]);
-    let from = RepeatingReader::new(RETURNED, &chunk, 200_000, TERMINATOR);
-    let to = ScriptedWriter::new(4096, Failing::Never);
-    let came = run_repeated(&mut areas, from, to, NOTHING);
-    let want = Repeated {
-        answer: Ok(Report {
-            return_values: 1,
-            ..report(0, 0, 0)
-        }),
-        taken: 0,
-        kept: Some(0),
-    };
-    let is_little = areas.peak_rest() <= 70_784;
-    same("many chunks", &(came, is_little), &(Some(want), true))
-}

@@ -89,21 +89,53 @@ fn a_vast_value_is_read_no_further_than_written(rt: HostRuntime) -> Result<(), F
     same("a block", &(out, areas.waiting()), &(Some(want), waiting))
 }
 
-// How many bytes a value has, how the writer fails, and how many bytes are written and wait then.
-const BLOCKS: [(u32, Failing, usize, u64); 4] = [
-    (4086, Failing::AtWrite(0), 0, 4095),
-    (4087, Failing::AtWrite(0), 0, 4096),
-    (4087, Failing::InFlush, 4096, 0),
-    (4088, Failing::AtWrite(1), 4096, 1),
+// A value of varbinary(max) and of 100,000,000 bytes that a procedure returned, up to its first chunk; and the
+// terminator and a DONE.
+const RETURNED: &[u8] = &[
+    0x04, 0x00, 0x00, 0x1E, 0x00, 0x00, 0x01, 0x00, 0xAC, 0x00, 0x00, 0x00, 0x01, 0x00, 0x00, 0x00,
+    0x00, 0x00, 0x00, 0xA5, 0xFF, 0xFF, 0x00, 0xE1, 0xF5, 0x05, 0x00, 0x00, 0x00, 0x00,
 ];
 
-// A packet of one x, and the last, with the terminator and a DONE.
-const ONE_X: &[u8] = &[0x04, 0x00, 0x00, 0x09, 0x00, 0x00, 0x01, 0x00, b'x'];
-
-const LAST_PACKET: &[u8] = &[
+const TERMINATOR: &[u8] = &[
     0x04, 0x01, 0x00, 0x19, 0x00, 0x00, 0x01, 0x00, 0, 0, 0, 0, 0xFD, 0, 0, 0, 0, 0, 0, 0, 0, 0, 0,
     0, 0,
 ];
+
+// The header of a packet of 512 bytes, and the length of a chunk of 500.
+const CHUNK: &[u8] = &[4, 0, 2, 0, 0, 0, 1, 0, 0xF4, 1, 0, 0];
+
+// Each packet but the first and the last has one chunk.
+#[test]
+fn a_value_of_many_chunks_is_passed_over(rt: HostRuntime) -> Result<(), Fail> {
+    let mut areas = make_areas(rt.alloc(), 512)?;
+    let chunk = filled(rt.alloc(), CHUNK, 512, b'"')?;
+    let from = RepeatingReader::new(RETURNED, &chunk, 200_000, TERMINATOR);
+    let to = ScriptedWriter::new(4096, Failing::Never);
+    let came = run_repeated(&mut areas, from, to, NOTHING);
+    let want = Repeated {
+        answer: Ok(Report {
+            return_values: 1,
+            ..report(0, 0, 0)
+        }),
+        taken: 0,
+        kept: Some(0),
+    };
+    let is_little = areas.peak_rest() <= 70_784;
+    same("many chunks", &(came, is_little), &(Some(want), true))
+}
+
+// How many bytes a value has, how the writer fails, and how many bytes are written and wait then.
+struct Block(u32, Failing, usize, u64);
+
+const BLOCKS: [Block; 4] = [
+    Block(4086, Failing::AtWrite(0), 0, 4095),
+    Block(4087, Failing::AtWrite(0), 0, 4096),
+    Block(4087, Failing::InFlush, 4096, 0),
+    Block(4088, Failing::AtWrite(1), 4096, 1),
+];
+
+// A packet of one x.
+const ONE_X: &[u8] = &[0x04, 0x00, 0x00, 0x09, 0x00, 0x00, 0x01, 0x00, b'x'];
 
 // The text of a value of n times x, in one chunk of a row of varchar(max).
 fn text_of(alloc: Global, n: usize) -> Result<Vec<u8>, AllocError> {
@@ -113,17 +145,14 @@ fn text_of(alloc: Global, n: usize) -> Result<Vec<u8>, AllocError> {
 }
 
 // So many of its n + 9 bytes are written before the writer fails, and so many wait.
-fn check_block(
-    alloc: Global,
-    areas: &mut Areas,
-    (n, failing, written, unwritten): (u32, Failing, usize, u64),
-) -> Result<(), Fail> {
+fn check_block(alloc: Global, areas: &mut Areas, block: &Block) -> Result<(), Fail> {
+    let Block(n, failing, written, unwritten) = *block;
     let text = text_of(alloc, n as usize)?;
     let mut first = VAST;
     first[2..4].copy_from_slice(&[0, 41]);
     first[29..33].copy_from_slice(&n.to_le_bytes());
     first[37..].copy_from_slice(&n.to_le_bytes());
-    let from = RepeatingReader::new(&first, ONE_X, u64::from(n), LAST_PACKET);
+    let from = RepeatingReader::new(&first, ONE_X, u64::from(n), TERMINATOR);
     let to = ScriptedWriter::new(4096, failing);
     let came = run_repeated(areas, from, to, &text);
     let answer = Err(Stopped {
@@ -144,8 +173,8 @@ fn check_block(
 #[test]
 fn a_value_ends_near_a_block(rt: HostRuntime) -> Result<(), Fail> {
     let mut areas = make_areas(rt.alloc(), 8192)?;
-    for row in &BLOCKS {
-        check_block(rt.alloc(), &mut areas, *row)?;
+    for block in &BLOCKS {
+        check_block(rt.alloc(), &mut areas, block)?;
     }
     Ok(())
 }
