@@ -31,11 +31,11 @@ T = TypeVar("T")
 Meanwhile = Callable[[int, float], float]  # waits until a descriptor can be read, for at most so many seconds: how long it waited
 
 
-def wait_for(descriptor: int, seconds: float) -> float:
-    """Waits until a descriptor can be read, for at most so many seconds. Returns how long it waited."""
+def wait_for(descriptor: int, seconds: float, event: int = select.POLLIN) -> float:
+    """Waits until a descriptor can be read, or has another event, for at most so many seconds. Returns how long it waited."""
     began = time.monotonic()
     events = select.poll()
-    events.register(descriptor, select.POLLIN)
+    events.register(descriptor, event)
     events.poll(max(0.0, seconds * 1000))
     return min(time.monotonic() - began, seconds)  # it's longer if this process was stopped meanwhile
 
@@ -43,16 +43,14 @@ def wait_for(descriptor: int, seconds: float) -> float:
 class Channel:
     """The packets of a connection, through TLS once `encrypt` is done and until `uncover`.
 
-    Nothing is waited for longer than `seconds`, counted anew for each message that is read whole and for each byte of a body of an
-    answer, so that empty packets don't last for ever. Only time in which the other side is waited for counts, not what is spent on
-    what came. Within `limit` all of it counts, and nothing renews it."""
+    Nothing is waited for longer than `seconds`, counted anew for each message that is read whole, for each byte of a body of an
+    answer, so that empty packets don't last for ever, and for bytes that the other side takes. Only time in which it is waited for
+    counts, not what is spent on what came. Within `limit` all of it counts, and nothing renews it."""
 
     def __init__(self, connected: socket.socket, seconds: float) -> None:
         self.socket, self.seconds = connected, seconds
         self.meanwhile: Meanwhile = wait_for  #: what is done while the other side is waited for
         connected.settimeout(None)
-        whole = int(seconds)
-        connected.setsockopt(socket.SOL_SOCKET, socket.SO_SNDTIMEO, struct.pack("@ll", whole, int((seconds - whole) * 1_000_000)))
         self.tls: Optional[ssl.SSLObject] = None
         self._received, self._to_send = ssl.MemoryBIO(), ssl.MemoryBIO()
         self._block = b""  # received and not used
@@ -165,10 +163,18 @@ class Channel:
         return block if taken == len(block) else block[:taken]
 
     def write(self, data: bytes) -> None:
+        """Sends bytes, encrypted. Raises TimeoutError if the other side doesn't take them."""
         if self.tls:
             self.tls.write(data)
             data = self._to_send.read()
-        self.socket.sendall(data)
+        left = memoryview(data)
+        self.wait()
+        while left:
+            try:
+                left = left[self.socket.send(left, socket.MSG_DONTWAIT):]
+                self.wait()
+            except BlockingIOError:
+                self._left -= wait_for(self.socket.fileno(), min(self._seconds_left(), SLICE), select.POLLOUT)
 
     def read_packet(self) -> tuple[bytes, bytes]:
         """A packet's header and its body. Raises EOFError if the other side has closed before its end."""
@@ -334,8 +340,8 @@ def told_of(failure: Union[EOFError, OSError], server: Server) -> ConnectionFail
         return CertificateRefused(f"the server's certificate isn't trusted: {failure.verify_message}. --certificates names its authority; -C trusts anyone")
     if isinstance(failure, (EOFError, BrokenPipeError, ConnectionResetError)):
         return ConnectionFailed("the server closed the connection")
-    if isinstance(failure, (BlockingIOError, TimeoutError, socket.timeout)) and not failure.errno or isinstance(failure, BlockingIOError):
-        return TimedOut(str(failure) if not failure.errno else f"the server was silent for longer than {server.seconds:g} seconds")
+    if isinstance(failure, TimeoutError) and not failure.errno:
+        return TimedOut(str(failure))
     return ConnectionFailed(f"{server.host}, port {server.port}: {failure.strerror or failure}")
 
 

@@ -12,6 +12,7 @@ import threading
 import time
 import unittest
 from collections.abc import Callable
+from concurrent.futures import ThreadPoolExecutor
 from typing import Any
 
 import gavyreto
@@ -361,6 +362,25 @@ class Endings(Live):
                 came = subprocess.run(command_for(port, *words, "SELECT 1"), capture_output=True, check=False, timeout=SECONDS, **options)
                 self.assert_ends(came, 5, b"", "the login wasn't done within 2 seconds: --login-seconds allows more")
                 self.assertLess(time.monotonic() - began, 10)
+
+    def test_a_server_that_does_not_read(self) -> None:
+        """Nobody waits without end for it to take a message, be it that it takes a part now and then within a login."""
+        for seconds, limit, pause in ((0.5, 0.0, 0.0), (0.5, 20.0, 0.0), (20.0, 0.5, 0.0), (20.0, 1.0, 0.01)):
+            ours, theirs = socket.socketpair()
+            with self.subTest(seconds=seconds, limit=limit, pause=pause), ours, theirs, ThreadPoolExecutor() as pool:
+                channel, began, is_over = Channel(ours, seconds), time.monotonic(), threading.Event()
+                channel.limit(began + limit if limit else 0.0, "the limit")
+
+                def take() -> None:
+                    while pause and not is_over.wait(pause):
+                        theirs.recv(4096)
+
+                taking = pool.submit(take)
+                with self.assertRaisesRegex(TimeoutError, "the limit" if 0 < limit < seconds else "silent for longer than 0.5 seconds"):
+                    channel.write_message(PacketType.LOGIN, bytes(1 << 26))
+                self.assertLess(time.monotonic() - began, 10)
+                is_over.set()
+                taking.result()
 
     def test_a_server_that_goes_on_after_an_interrupt(self) -> None:
         """It is told what is waited for, and not for longer than a login may take, whether it sends more or nothing."""
