@@ -148,7 +148,7 @@ class Opened:
         if mode and not stat.S_ISREG(mode):
             return os.open(self._path, os.O_WRONLY | os.O_CLOEXEC)
         self._waiting = self._path + PARTIAL
-        descriptor = created(self._waiting)
+        descriptor = created(self._waiting, stat.S_IMODE(mode or 0o666))
         if mode:
             os.chmod(descriptor, stat.S_IMODE(mode))
         return descriptor
@@ -170,8 +170,9 @@ class Opened:
                 os.replace(self._waiting, self._path)
 
 
-def created(path: str) -> int:
-    """A new file in the place of one that was left. Raises `Stopped` if another command writes that."""
+def created(path: str, mode: int = 0o666) -> int:
+    """A new file, which may be opened by whom its mode says, in the place of one that was left. Raises `Stopped` if another command
+    writes that."""
     with contextlib.ExitStack() as held:
         with contextlib.suppress(OSError):
             left = os.open(path, os.O_RDONLY | os.O_NONBLOCK | os.O_NOFOLLOW | os.O_CLOEXEC)
@@ -179,6 +180,6 @@ def created(path: str) -> int:
             lock_file(path, left)
         with contextlib.suppress(FileNotFoundError):
             os.remove(path)
-    descriptor = os.open(path, os.O_WRONLY | os.O_CREAT | os.O_EXCL | os.O_CLOEXEC, 0o666)
+    descriptor = os.open(path, os.O_WRONLY | os.O_CREAT | os.O_EXCL | os.O_CLOEXEC, mode)
     lock_file(path, descriptor)
     return descriptor

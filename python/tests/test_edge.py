@@ -14,13 +14,13 @@ import unittest
 from collections.abc import Callable
 from concurrent.futures import ThreadPoolExecutor
 from typing import Any
+from unittest import mock
 
 import gavyreto
-from gavyreto import tds
+from gavyreto import places, tds
 from gavyreto.where import OF_URL, Where
 from gavyreto.commands.query import arguments, server
 from gavyreto.connection import Channel
-from gavyreto.places import created
 from gavyreto.tds import PacketType
 from tests.beside import ORDERS, SECONDS, Live, answered, ask_port, command_for, listening, log_in, responses, saying_goodbye, served, started
 
@@ -163,9 +163,23 @@ class Outputs(Live):
                 os.symlink("nothing", waiting)
             else:
                 os.mkfifo(waiting)
-            os.close(created(waiting))
+            os.close(places.created(waiting))
             self.assertTrue(stat.S_ISREG(os.lstat(waiting).st_mode))
             os.remove(waiting)
+
+    def test_who_may_read_a_text_under_way(self) -> None:
+        """Never more than may read the one that it replaces."""
+        before, seen = os.umask(0), list[tuple[int, int]]()
+        self.addCleanup(os.umask, before)
+        for mode in (0o600, 0o640, 0o604, 0o666):
+            with open(self.path("rows"), "wb") as file:
+                os.chmod(file.name, mode)
+            with mock.patch.object(places, "lock_file", lambda path, held: seen.append((mode, stat.S_IMODE(os.fstat(held).st_mode)))):
+                out = places.Opened(places.Place("rows", -1, self.path("rows")))
+            out.close(True)
+            seen.append((mode, stat.S_IMODE(os.stat(file.name).st_mode)))
+        self.assertEqual(len(seen), 8)
+        self.assertEqual([one for one, other in seen], [other for one, other in seen])
 
     def test_two_names_of_one_file(self) -> None:
         for words in ("'SELECT * FROM orders' 'SELECT * FROM sets'", "<<'END'\nSELECT * FROM orders\nGO\nSELECT * FROM sets\nEND\n"):
