@@ -121,6 +121,7 @@ def main(words: Optional[list[str]] = None) -> NoReturn:
     status = ended(sys.argv[1:] if words is None else words)
     try:
         sys.stdout.flush()
+        common.settle(common.STANDARD_OUTPUT)
     except OSError as failure:
         common.tell(f"standard output: {common.cause_of(failure)}")
         sys.stdout = open(os.devnull, "w", encoding="utf-8")  # so that the interpreter doesn't try again

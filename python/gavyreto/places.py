@@ -11,7 +11,8 @@ from collections.abc import Iterator
 from typing import NamedTuple, Union
 
 from gavyreto.commands.common import (
-    STANDARD_ERROR, STANDARD_INPUT, STANDARD_OUTPUT, STREAMS, TWO_PLACES, Stopped, are_two_places, lock_file, naming, needed, opened_by, write,
+    STANDARD_ERROR, STANDARD_INPUT, STANDARD_OUTPUT, STREAMS, TWO_PLACES, Stopped, are_two_places, check_name, lock_file, naming, needed, opened_by,
+    settle, write,
 )
 from gavyreto.program import FAILED, REFUSED
 
@@ -163,10 +164,9 @@ class Opened:
             return
         held, self.descriptor = self.descriptor, -1
         with naming(self.name), os.fdopen(held, "wb"):  # whose lock it has
-            os.close(os.dup(held))  # which writes what was put off
+            settle(held)
             if self._waiting and is_whole:
-                if not os.path.samestat(os.fstat(held), os.stat(self._waiting)):
-                    raise Stopped(f"{self._waiting}: another file has its name now", FAILED)
+                check_name(self._waiting, held)
                 os.replace(self._waiting, self._path)
 
 

@@ -394,6 +394,42 @@ class Commands(Live):
             given.write(wire("float")[20:])
         self.assertEqual((first.returncode, self.text("out")), (0, adapted(wire("float"))))
 
+    def test_an_output_that_loses_its_name(self) -> None:
+        """What was written there goes with the name, or nobody finds it."""
+        moves = {"renamed": lambda: os.rename(self.path("out"), self.path("renamed")), "removed": lambda: os.remove(self.path("out"))}
+        for how, move in moves.items():
+            for is_replaced in (False, True):
+                own = started() | {"stdin": subprocess.PIPE, "stderr": subprocess.PIPE}
+                with self.subTest(how=how, is_replaced=is_replaced), subprocess.Popen(
+                        [sys.executable, "-m", "gavyreto", "adapt", "-o", "out"], cwd=self.folder, **own) as run:
+                    given = cast(IO[bytes], run.stdin)
+                    given.write(wire("float")[:20])
+                    given.flush()
+                    wait_for(lambda: os.path.exists(self.path("out")))
+                    move()
+                    if is_replaced:
+                        with open(self.path("out"), "xb") as file:
+                            file.write(b"another")
+                    said = run.communicate(wire("float")[20:])[1].decode()
+                    line = "out: another file has its name now\n" if is_replaced else "out: No such file or directory\n"
+                    self.assertEqual((run.returncode, said), (5, line))
+                    self.assertEqual(os.path.exists(self.path("out")) and self.text("out"), is_replaced and b"another")
+                    self.setUp()
+
+    def test_what_the_system_puts_off(self) -> None:
+        """What can't be written of it in the end is told, as of a file of another machine whose disk is full."""
+        script = (
+            "import errno, os, sys\nfrom gavyreto.__main__ import main\nname, close = sys.argv.pop(1), os.close\n"
+            "def closed(it):\n    found = os.readlink(f'/proc/self/fd/{it}')\n    close(it)\n"
+            "    if found.endswith(name): raise OSError(errno.EDQUOT, 'Disk quota exceeded')\nos.close = closed\nmain()\n")
+        self.script("put_off", f"exec {sys.executable} -c \"$SCRIPT\" \"$@\"")
+        for words, name in (
+            ("/out adapt -o out float.tds", "out"), ("/out adapt float.tds > out", "standard output"), ("/out columns float.tds > out", "standard output"),
+            ("/out.partial query -S 127.0.0.1,$PORT -U reader -C --program \"$PROGRAM\" -o out 'SELECT * FROM orders'", self.path("out"))):
+            came = self.beside((), "exec ./put_off " + words, SCRIPT=script)
+            with self.subTest(words=words):
+                self.assertEqual((came.returncode, came.stderr.decode().splitlines()[-1]), (5, f"{name}: Disk quota exceeded"))
+
     def test_an_input_is_no_output(self) -> None:
         with open(self.path("x"), "wb") as file:
             file.write(wire("float"))

@@ -15,7 +15,9 @@ import stat
 from functools import partial
 
 from gavyreto.adapting import Adapter
-from gavyreto.commands.common import STANDARD_ERROR, STANDARD_OUTPUT, STREAMS, Once, Stopped, is_one_file, lock_file, named, naming, needed, open_response, opened_by, parser_of, write
+from gavyreto.commands.common import (
+    STANDARD_ERROR, STANDARD_OUTPUT, STREAMS, Once, Stopped, check_name, is_one_file, lock_file, named, naming, needed, open_response, opened_by, parser_of, settle, write,
+)
 from gavyreto.program import BAD_INPUT, CHARSETS, REFUSED
 
 
@@ -39,13 +41,18 @@ def adapt(asked: argparse.Namespace) -> None:
             raise Stopped(f"{name}: the lines are written to it", REFUSED)
         with naming(name):
             target = os.open(asked.output, os.O_WRONLY | os.O_CREAT, 0o666) if opened is None else opened
-            if opened is None and stat.S_ISREG(os.fstat(target).st_mode):
+            is_file = opened is None and stat.S_ISREG(os.fstat(target).st_mode)
+            if is_file:
                 lock_file(name, target)
                 os.ftruncate(target, 0)
         is_more = True
         while is_more:
             Adapter(source.read, partial(write, name, target), asked.charset).run()
             is_more = bool(source.peek(1))
+        with naming(name):
+            settle(target)
+            if is_file:
+                check_name(name, target)
 
 
 def run(words: list[str]) -> int:

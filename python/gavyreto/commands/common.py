@@ -167,8 +167,7 @@ def folder_of_texts(path: str) -> Iterator[None]:
         lock(path, descriptor)
         try:
             yield
-            if not os.path.samestat(os.fstat(descriptor), os.stat(path)):
-                raise Stopped(f"{path}: another folder has its name now", FAILED)
+            check_name(path, descriptor, "folder")
         except BaseException:
             with contextlib.suppress(OSError):  # it has something
                 for it in made:
@@ -176,6 +175,17 @@ def folder_of_texts(path: str) -> Iterator[None]:
             raise
     finally:
         os.close(descriptor)
+
+
+def check_name(path: str, descriptor: int, what: str = "file") -> None:
+    """Raises `Stopped` if what is open hasn't its name any more."""
+    if not os.path.samestat(os.fstat(descriptor), os.stat(path)):
+        raise Stopped(f"{path}: another {what} has its name now", FAILED)
+
+
+def settle(descriptor: int) -> None:
+    """Has the system write what it put off, as it does for files of other machines. Raises OSError if it can't."""
+    os.close(os.dup(descriptor))
 
 
 def lock(path: str, descriptor: int) -> None:
