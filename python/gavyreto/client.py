@@ -271,7 +271,7 @@ def connect(
 def _of_url(url: str) -> dict[str, Any]:
     """What a URL says, as arguments. Raises ValueError."""
     found = where(url)
-    given: dict[str, Any] = {"server": f"{found.host}\\{found.instance}" if found.instance else found.host}
+    given: dict[str, Any] = {"server": f"{found.host}\\{found.instance}" if found.instance and not found.port else found.host}
     given |= {name: value for name, value in (("port", found.port), ("user", found.user), ("database", found.database)) if value}
     for name, value in found.options:
         if name == "trust-server":

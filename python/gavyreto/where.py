@@ -65,9 +65,11 @@ def _of_url(text: str) -> Where:
         parts = urlsplit(text)
         host, port = parts.hostname or "", parts.port
         asked = parse_qsl(parts.query, keep_blank_values=True, errors="strict")
+        if any(it < " " for it in text):  # some of which `urlsplit` leaves out
+            raise ValueError
         name, user, database = (unquote(it, errors="strict") for it in (host, parts.username or "", parts.path[1:]))
     except ValueError:
-        raise ValueError("a URL without a host, with a port that is none, or with what isn't UTF-8") from None
+        raise ValueError("a URL without a host, with a port that is none, a control character, or what isn't UTF-8") from None
     if parts.password is not None or any(re.search("pass|pwd|token", name, re.IGNORECASE) for name, _ in asked):
         raise ValueError(NO_PASSWORD)
     if any(name == "trust-server" and value not in YES + NO for name, value in asked):
@@ -75,7 +77,7 @@ def _of_url(text: str) -> Where:
     named = next((value for name, value in asked if name == "instance"), "")
     rest = tuple((name, value) for name, value in asked if name != "instance")
     is_known = all(name in OF_URL for name, _ in rest) and all(value or name == "trust-server" for name, value in asked)
-    is_more = MORE.search(parts.netloc.rpartition("@")[2] + parts.path)
+    is_more = MORE.search(parts.netloc.rpartition("@")[2] + parts.path) or "\\" in name
     if is_more or not host or port == 0 or parts.fragment or "/" in parts.path[1:] or not is_known or len(dict(asked)) < len(asked):
         raise ValueError(f"a URL is mssql://USER@HOST:PORT/DATABASE, and behind ? it may have instance, {', '.join(OF_URL)}, each once")
     return Where(name, port, named, user, database, rest)

@@ -80,6 +80,7 @@ class Arguments(Live):
         ):
             self.assertEqual(server(text), (*wanted, *Where("")[len(wanted):]))
         for text in ("mssql://", "mssql://h:x", "mssql://h:0", "mssql://h?trust-server=maybe", "mssql://h/a/b", "mssql://h?x=1", "mssql://h?encrypt=a&encrypt=b", "mssql://h#x", "h:1433", "h\\", "\\i",
+                     "mssql://h/da\tta", "mssql://h\n.example/sales", "mssql://h/sales\r", "mssql://h\\A:1500", "mssql://h%5CA:1500",
                      "mssql://caf%E9@h", "mssql://h/%ff", "mssql://h?certificates=%ff", *(f"mssql://h?{name}=" for name in ("instance", *OF_URL) if name != "trust-server")):
             with self.subTest(text=text), self.assertRaises(argparse.ArgumentTypeError):
                 server(text)

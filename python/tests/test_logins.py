@@ -307,6 +307,9 @@ class Names(Live):
             self.assertNotIn("geheim", str(refused.exception))
         with self.assertRaises(ValueError):
             gavyreto.connect("localhost", user="u", password="p", integrated=True)
+        port = free_port()
+        with self.assertRaisesRegex(gavyreto.ConnectionFailed, f"^127.0.0.1, port {port}: Connection refused$"):
+            gavyreto.connect(f"mssql://u@127.0.0.1:{port}?instance=A", password="secret")  # the port isn't looked up
         for name in (f"mssql://u@127.0.0.1%00.example:{server['PORT']}", "127.0.0.1\0.example", "127.0.0.1\0\\sales"):
             with self.assertRaisesRegex(gavyreto.ConnectionFailed, "no host of a network .a NUL character."):
                 gavyreto.connect(name, user="u", password="secret", encrypt="none", port=int(server["PORT"]))
