@@ -4,6 +4,7 @@ from __future__ import annotations
 import contextlib
 import errno
 import fcntl
+import functools
 import os
 import re
 import select
@@ -137,6 +138,12 @@ def widen(pipe: IO[bytes]) -> None:
         fcntl.fcntl(pipe.fileno(), F_SETPIPE_SZ, ROOM_OF_PIPE)
 
 
+@functools.lru_cache(maxsize=None)
+def nothing() -> int:
+    """A descriptor of /dev/null, opened once: where it is needed there may be none left."""
+    return os.open(os.devnull, os.O_WRONLY | os.O_CLOEXEC)
+
+
 def status_after(process: subprocess.Popen[bytes]) -> Optional[int]:
     """The status of a process, once it has ended. An interrupt within a call of Popen can leave its lock taken, for which its
     own wait would wait without end. None if the status is lost: by an interrupt, or to a caller that ignores SIGCHLD."""
@@ -220,6 +227,7 @@ class Program(contextlib.AbstractContextManager["Program"]):
         self.is_reading = False  #: whether it reads the response on, as far as is known
         self._process: Optional[subprocess.Popen[bytes]] = None
         self._pipe: Optional[IO[bytes]] = None  # that of the input, whose number stays its own as long as somebody may hand over
+        self._drop_pipe: Callable[[], object] = lambda: None  # is called then
         self._input = self._text = self._notes = -1
         self._open: set[int] = set()  # those of text and lines that haven't ended
         self._lines, self._taken, self._handed = "", 0, 0  # of this response
@@ -232,8 +240,6 @@ class Program(contextlib.AbstractContextManager["Program"]):
     def __del__(self) -> None:
         self.kill()
         self.close()
-        if self._pipe:
-            self._pipe.close()  # nobody hands over any more
 
     def begin(self) -> None:
         """Begins a response. Raises OSError if the program can't be started."""
@@ -246,6 +252,8 @@ class Program(contextlib.AbstractContextManager["Program"]):
     def _start(self) -> None:
         """Starts it in a session of its own, so that Ctrl-C doesn't end it before it has written what came. It is there once all of it is
         known: an interrupt leaves none that is known in part."""
+        nothing()
+        self._drop_pipe()
         words = self.command if self._source is not None else [*self.command[:2], "--all", *self.command[2:]]
         process = subprocess.Popen(
             words, bufsize=0, stdin=subprocess.PIPE if self._source is None else self._source, stdout=subprocess.PIPE, stderr=subprocess.PIPE,
@@ -258,6 +266,9 @@ class Program(contextlib.AbstractContextManager["Program"]):
         if process.stdin:
             os.set_blocking(given, False)
         self._pipe, self._input, self._process, self.is_reading = process.stdin, given, process, process.stdin is not None
+        if process.stdin:  # which Python would warn of if it were collected before this
+            drop = weakref.finalize(self, process.stdin.close)
+            drop.atexit, self._drop_pipe = False, drop
 
     def _is_under_way(self) -> bool:
         return self.ending is None and (self._handed > 0 or self._source is not None)
@@ -355,9 +366,7 @@ class Program(contextlib.AbstractContextManager["Program"]):
         """Puts something else in the place of the input, whose number another thread may have."""
         self.is_reading = False
         if self._pipe and not self._pipe.closed:
-            nothing = os.open(os.devnull, os.O_WRONLY | os.O_CLOEXEC)
-            os.dup2(nothing, self._input, inheritable=False)
-            os.close(nothing)
+            os.dup2(nothing(), self._input, inheritable=False)
 
     # Taking.
 

@@ -4,7 +4,10 @@ from __future__ import annotations
 import contextlib
 import os
 import random
+import resource
 import signal
+import subprocess
+import sys
 import tempfile
 import threading
 import unittest
@@ -15,7 +18,7 @@ from unittest import mock
 from gavyreto import program, tds
 from gavyreto.errors import Fault, Report, ServerError
 from gavyreto.program import BAD_INPUT, DONE, SERVER_ERROR, Ending, Output, OutputFailed, Program, command_of
-from tests.beside import ORDERS, PROGRAM, SECONDS, answered, interrupted, responses, served, wait_for, wire
+from tests.beside import ORDERS, PROGRAM, SECONDS, answered, interrupted, responses, served, started, wait_for, wire
 
 ORDERED = answered(*responses.order_rows(0), served.done())
 WITHOUT = answered(served.done())
@@ -73,6 +76,32 @@ class Runs(unittest.TestCase):
                 self.assertEqual((ending.status, ending.written), (BAD_INPUT, len(came)))
                 ending, came = ended(run, ORDERED)
                 self.assertEqual((ending.status, came), (DONE, ORDERS))
+
+    def test_descriptors_that_run_out(self) -> None:
+        """A response that is cut, or a fault that comes early, has its end where no more can be opened."""
+        before = resource.getrlimit(resource.RLIMIT_NOFILE)
+        self.addCleanup(resource.setrlimit, resource.RLIMIT_NOFILE, before)
+        resource.setrlimit(resource.RLIMIT_NOFILE, (256, before[1]))
+        for data, line in (ORDERED[:20], "fault 2 InputEnded"), (wire("float"), "fault 10 RefusedColumn"):
+            with Program(command()) as run, open(os.devnull, "wb") as file, contextlib.ExitStack() as held:
+                run.begin()
+                with contextlib.suppress(OSError):
+                    while True:
+                        held.callback(os.close, os.dup(file.fileno()))
+                run.hand(data, Output(file.fileno()))
+                run.cut()
+                self.assertTrue(run.finish(Output(file.fileno())).line.startswith(line))
+
+    def test_nothing_that_python_warns_of(self) -> None:
+        """Not where a program is begun again, nor where it is collected with others before what is its own."""
+        script = (
+            "import gc, sys\nfrom gavyreto.program import *\n"
+            "def run(data):\n    held = Program(command_of(sys.argv[1], PACKET_SIZE, COLUMN_ROOM, MAX_WIRE, CHARSETS[0]))\n    gc.collect()\n"
+            "    for _ in range(3):\n        held.begin(), held.put(data), held.read(1)\n    held._process.others, held.itself = [held], held\n"
+            "gc.disable()\nfor data in bytes.fromhex(sys.argv[2]), bytes.fromhex(sys.argv[3]):\n    run(data), run(data), gc.collect()\n")
+        command = [sys.executable, "-X", "dev", "-W", "error", "-c", script, PROGRAM, wire("float").hex(), wire("kinds", 30).hex()]
+        came = subprocess.run(command, capture_output=True, check=False, timeout=SECONDS, **started())
+        self.assertEqual((came.returncode, came.stderr.decode()), (0, ""))
 
     def test_a_program_that_is_killed(self) -> None:
         with Program(command()) as run:
