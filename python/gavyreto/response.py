@@ -31,6 +31,12 @@ Copy = Callable[[Write], bool]  # whether all packets were there
 Tail = Callable[[], tds.Bytes]  # the end of the payload, once all of it was read
 
 
+def check_unchanged(before: os.stat_result, descriptor: int) -> None:
+    """Raises OSError if a file was written to since; not if others follow the response."""
+    if has_changed(before, descriptor) and os.fstat(descriptor).st_size <= before.st_size:
+        raise OSError(errno.EBUSY, CHANGED)
+
+
 class HeldFile:
     """A descriptor of its own of an open file, from whose place on it is read, whoever else reads the file."""
 
@@ -51,8 +57,7 @@ class HeldFile:
         while not framing.is_over and (block := os.pread(self.descriptor, BLOCK, at)):
             framing.take(block)
             at += len(block)
-        if has_changed(self._before, self.descriptor) and os.fstat(self.descriptor).st_size <= self._before.st_size:  # others may follow it
-            raise OSError(errno.EBUSY, CHANGED)
+        check_unchanged(self._before, self.descriptor)
         return framing.tail
 
     def close(self) -> None:
@@ -234,7 +239,13 @@ def _reading(source: Source) -> tuple[Read, Callable[[], object]]:
         own = open(source, "rb", buffering=0)
     else:
         return _read_of(source), lambda: None
-    return lambda most: own.read(most) or b"", own.close
+    before = os.fstat(own.fileno())
+
+    def close() -> None:
+        with own:
+            check_unchanged(before, own.fileno())
+
+    return lambda most: own.read(most) or b"", close
 
 
 def adapt_all(adapter: Adapter, found: Descriptions) -> bool:

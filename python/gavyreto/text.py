@@ -1,6 +1,7 @@
 """The text that the program writes, read back: sets and their rows."""
 from __future__ import annotations
 
+import errno
 import io
 import os
 import re
@@ -14,6 +15,7 @@ from typing import Any, Callable, Iterator, NamedTuple, NoReturn, Optional, Sequ
 from gavyreto.columns import FLOATS, Column
 from gavyreto.errors import Error, Interrupted, MalformedText, NotOneSet, PassedOver, UnfinishedText, check_own, is_of
 from gavyreto.payload import Descriptions
+from gavyreto.program import CHANGED, has_changed
 from gavyreto.records import BLOCK, SEPARATOR, LongField, LongRecord, OpenField, Read, Records, end_of_set, joined, outlined, record_at
 from gavyreto.rows import Row, row_type
 from gavyreto.values import BINARY, FLOAT, NULL, QUOTE, Converter, Dates, Value, check_dates, value_of
@@ -689,7 +691,13 @@ class Text(Sets):
 
     def __init__(self, path: Union[str, os.PathLike[str]], dates: Dates) -> None:
         self._file = open(path, "rb", buffering=0)
+        self._before = os.fstat(self._file.fileno())
         super().__init__(lambda most: self._file.read(most) or b"", dates)
+
+    def _judge_end(self, rest: str) -> None:
+        if has_changed(self._before, self._file.fileno()):
+            self._raise(OSError(errno.EBUSY, CHANGED))
+        super()._judge_end(rest)
 
     def _release(self) -> None:
         self._file.close()
@@ -699,6 +707,6 @@ def read(text: Union[str, os.PathLike[str]], *, dates: Dates = False) -> Sets:
     """The result sets of a text that the program wrote, by the path of its file.
 
     Raises OSError if it can't be opened; while the sets and rows are read, once all before is handed out, MalformedText if
-    it isn't such a text, and UnfinishedText if it ends within a row."""
+    it isn't such a text, UnfinishedText if it ends within a row, and OSError at its end if it changed meanwhile."""
     check_dates(dates)
     return Text(text, dates)

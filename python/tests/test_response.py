@@ -243,6 +243,25 @@ class Columns(unittest.TestCase):
                     self.assertRaisesRegex(OSError, "it changed while it was read", rows.fetchall)
                     self.assertRaisesRegex(gavyreto.Interrupted, "OSError", rows.fetchall)
 
+    def test_a_file_that_changes_while_it_is_rewritten(self) -> None:
+        """What is behind its place may be of another response."""
+        data = wire("orders", 100_000)
+        for of, flags, changed, kind in (
+            (str, 0, wire("orders"), OSError), (str, os.O_TRUNC, wire("orders"), OSError), (int, 0, wire("orders"), OSError), (str, os.O_APPEND, wire("error"), None)):
+            with self.subTest(of=of, flags=flags), tempfile.NamedTemporaryFile() as file:
+                self.write_to(file.name, data)
+                time.sleep(0.02)  # which the time of a change tells apart
+                with export(file.name if of is str else file.fileno(), adapt=True) as came:
+                    rows = came.only()
+                    rows.fetchone()
+                    held = os.open(file.name, os.O_WRONLY | flags)
+                    os.write(held, changed)
+                    os.close(held)
+                    if kind is None:
+                        self.assertEqual(len(rows.fetchall()), 99_999)
+                    else:
+                        self.assertRaisesRegex(kind, "it changed while it was read", rows.fetchall)
+
     def test_rows_by_name_and_as_a_cursor_has_them(self) -> None:
         """PEP 249's calls; a row is a tuple, which pickle keeps, and has its names too."""
         with export(wire("orders", 7)) as came:

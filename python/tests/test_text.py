@@ -2,6 +2,7 @@
 from __future__ import annotations
 
 import gc
+import os
 import pickle
 import resource
 import subprocess
@@ -291,6 +292,22 @@ class Files(unittest.TestCase):
             self.assertEqual((names, repr(rows)), (responses.NAMES, repr(responses.VALUES)))
         with self.assertRaises(FileNotFoundError):
             gavyreto.read("no such file")
+
+    def test_a_text_that_changes(self) -> None:
+        """As one that is under way, or is replaced: rows of it may be missing, or be those of another one."""
+        for flags, data in (os.O_APPEND, b"4\r\n"), (0, b'"a"\r\n7'), (os.O_TRUNC, b'"a"\r\n'), (os.O_TRUNC, b"x"):
+            with self.subTest(flags=flags, data=data), tempfile.NamedTemporaryFile() as file:
+                file.write(b'"a"\r\n' + b"1\r\n" * 100_000)
+                file.flush()
+                os.utime(file.name, (0, 0))  # a change has another time
+                with gavyreto.read(file.name) as came:
+                    rows = came.only()
+                    self.assertEqual(rows.fetchone(), (1,))
+                    changed = os.open(file.name, os.O_WRONLY | flags)
+                    os.write(changed, data)
+                    os.close(changed)
+                    for _ in range(2):
+                        self.assertRaisesRegex(OSError, "it changed while it was read", rows.fetchall)
 
     def test_the_only_set(self) -> None:
         two = b'"a"\r\n1\r\n\r\n"b"\r\n'
