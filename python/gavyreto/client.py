@@ -40,7 +40,7 @@ class Connection(Single, contextlib.AbstractContextManager["Connection"]):
                 self._session.end()
         finally:
             self._session.close()
-            if self._program:
+            if self._program and (answer is None or answer.is_whole):  # else it was closed with the answer, or will be
                 self._program.close()
 
     def close(self) -> None:
@@ -203,6 +203,10 @@ class Answer(Response):
                 self._session.end()
             except Error as surplus:
                 self._raise(surplus)
+
+    def _stop(self) -> None:
+        self._session.abandon()
+        super()._stop()
 
     def _release(self) -> None:
         if not self.is_left:

@@ -226,11 +226,14 @@ class Channel:
         """Whether the connection is this process's, and not that of one which this was forked off from."""
         return os.getpid() == self._process
 
-    def close(self) -> None:
-        """Closes the connection; who waits for it in another thread finds that it has ended. One of another process stays open there."""
+    def cut(self) -> None:
+        """Ends the connection; who waits for it in another thread finds that. One of another process stays open there."""
         if self.is_own():
             with contextlib.suppress(OSError):  # it was closed before, or by the other side
                 self.socket.shutdown(socket.SHUT_RDWR)
+
+    def close(self) -> None:
+        self.cut()
         self.socket.close()
 
 
@@ -467,9 +470,8 @@ class Session(contextlib.AbstractContextManager["Session"]):
             self._channel.close()
 
     def abandon(self) -> None:
-        """Cuts the connection, from another thread than the one that waits for it, which finds that it has ended."""
-        with contextlib.suppress(OSError):
-            self._channel.socket.shutdown(socket.SHUT_RDWR)
+        """Cuts the connection, while somebody waits for it, who finds that it has ended."""
+        self._channel.cut()
 
     def end(self) -> None:
         """Closes the connection once all answers are read. Raises BadAnswer if more has come than them."""

@@ -130,6 +130,9 @@ class Response(Sets):
     def _read(self, most: int) -> bytes:
         return self._program.read(most)
 
+    def _stop(self) -> None:
+        self._program.kill()
+
     def _release(self) -> None:
         """Ends the program if it still runs, in the middle of the response then."""
         if self._held and (self._is_closed or self._failure):

@@ -565,9 +565,12 @@ class Sets(Single):
             self._raise(NotOneSet("no result set"))
 
     def close(self) -> None:
-        """Ends the reading where it is. What is left isn't judged."""
+        """Ends the reading where it is, and so a call that reads meanwhile, within which this comes. What is left isn't judged."""
         self._is_closed = True
-        self._release()
+        if self._is_called:
+            self._stop()
+        else:
+            self._release()
 
     def _check_closed(self) -> None:
         """Sees to it that nothing is read past a value that is open."""
@@ -589,6 +592,8 @@ class Sets(Single):
             finally:
                 self._is_called = False
                 self._lock.release()
+                if self._is_closed:  # within the call
+                    self._release()
         except BaseException as failure:
             self._is_called = False
             self._end_by(failure)
@@ -639,8 +644,7 @@ class Sets(Single):
         """What a step of the parser gives."""
         if self._failure:
             self._raise(self._failure)
-        if self._is_closed and not self._is_ended:
-            raise ValueError("the reading was closed")
+        self._check_open()
         try:
             return step()
         except ValueError as wrong:
@@ -652,9 +656,14 @@ class Sets(Single):
             self._end()
             self._raise(UnfinishedText(self._parser.records.rest))
 
+    def _check_open(self) -> None:
+        if self._is_closed and not self._is_ended:
+            raise ValueError("the reading was closed")
+
     def _end(self) -> None:
         """The text is over: raises what is to be told of it."""
         if not self._is_ended:
+            self._check_open()
             self._is_ended = True
             self._judge_end(self._parser.records.rest)
             self._release()
@@ -681,6 +690,9 @@ class Sets(Single):
             if self._current:
                 self._current._drop()
             self._release()
+
+    def _stop(self) -> None:
+        """Sees to it that a call ends that waits for more, which then closes what is read from."""
 
     def _release(self) -> None:
         """Closes what is read from."""

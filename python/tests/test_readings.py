@@ -279,6 +279,43 @@ class Rows(unittest.TestCase):
                     else:
                         self.assertEqual((sorted(map(int, found)), came.rows), (list(range(20)), 20))
 
+    def test_a_reading_that_is_closed_within_a_call(self) -> None:
+        """As by the handler of a signal, at a line of it, which then opens files: none of their bytes become rows, or are taken from them."""
+        calls: list[Callable[[Any], Any]] = [
+            lambda rows: rows.fetchall(), lambda rows: rows.fetchmany(20_000), lambda rows: islice(rows, 20_000), lambda rows: rows.columns and []]
+        numbers, data, closed = random.Random(7), wire("broken", 20_000), 0
+        with tempfile.NamedTemporaryFile() as foreign, tempfile.NamedTemporaryFile() as file:
+            for it, content in (foreign, b'"id"\r\n' + b"666\r\n" * 100_000), (file, data):
+                it.write(content)
+                it.flush()
+            for source, call in product((data, file.name), calls):
+                for at in numbers.sample(range(1, 90), 9):
+                    with self.subTest(at=at, call=calls.index(call), source=type(source)):
+                        closed += self.closed_within(gavyreto.export(source, program=PROGRAM), call, at, foreign.name)
+        self.assertGreater(closed, 40)
+
+    def closed_within(self, came: gavyreto.Response, call: Callable[[Any], Any], at: int, foreign: str) -> bool:
+        """Whether a reading was closed at a line of a call."""
+        held, found, rows = list[int](), list[Any](), next(came)
+        rows.fetchone()
+
+        def come() -> None:
+            came.close()
+            held.extend(os.open(foreign, os.O_RDONLY) for _ in range(8))
+
+        with contextlib.suppress(ValueError):
+            meanwhile(at, lambda: found.extend(row[0] for row in call(rows)), come)
+        self.assertEqual([os.lseek(it, 0, os.SEEK_CUR) for it in held], [0] * len(held))
+        self.assertLess(set(found), {1, 2, 3, 4})
+        for it in held:
+            os.close(it)
+        if held:
+            self.assertIsNone(came._program._process)
+            with self.assertRaisesRegex(ValueError, "^the reading was closed$"):
+                list(came)
+        came.close()
+        return bool(held)
+
     def test_arguments_that_are_none(self) -> None:
         """They are refused before anything is read, and end no reading."""
         calls: list[Callable[[Any], Any]] = [
@@ -481,6 +518,41 @@ class Connections(Live):
         """The end of TLS right behind a whole answer is no fault."""
         with saying_goodbye(self, ORDERED) as port, connected(port, encrypt="all", trust_server=True) as connection:
             self.assertEqual(len(connection.query("x", program=PROGRAM).only().fetchall()), 3)
+
+    def test_a_connection_that_is_closed_by_another_thread(self) -> None:
+        """Who waits for rows, or for the first of them, doesn't wait any longer, and all of it is closed."""
+        held = tds.packet(tds.PacketType.ANSWER, b"".join(responses.order_rows(0)), False)
+        for answer, adapt, closes_all in product((b"", held), (False, True), (False, True)):
+            asked = threading.Event()
+
+            def serve(channel: Channel) -> None:
+                log_in(channel)
+                channel.read_message()
+                channel.write(answer)
+                asked.set()
+                while channel.receive():
+                    pass
+
+            with self.subTest(answer=len(answer), adapt=adapt, closes_all=closes_all), listening(serve) as port, connected(port) as connection:
+                came = connection.query("x", program=PROGRAM, adapt=adapt)
+                failed: list[Exception] = []
+
+                def read() -> None:
+                    try:
+                        came.only().fetchall()
+                    except Exception as failure:
+                        failed.append(failure)
+
+                thread = threading.Thread(target=read)
+                thread.start()
+                asked.wait(SECONDS)
+                time.sleep(0.05)
+                (connection if closes_all else came).close()
+                thread.join(SECONDS)
+                self.assertRegex(str(failed[0]), "^(the reading was closed|the server closed the connection)$")
+                self.assertIsNone(came._program._process)
+                with self.assertRaisesRegex(gavyreto.ConnectionFailed, "closed after"):
+                    connection.query("x", program=PROGRAM)
 
     def test_two_threads_on_one_connection(self) -> None:
         """Each answer has the rows of its own statement: who asks while another one does, or before its answer is read, is refused."""
