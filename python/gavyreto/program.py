@@ -240,6 +240,8 @@ class Program(contextlib.AbstractContextManager["Program"]):
     def __del__(self) -> None:
         self.kill()
         self.close()
+        if self._pipe:  # where Python ends `_drop_pipe` does nothing
+            self._pipe.close()
 
     def begin(self) -> None:
         """Begins a response. Raises OSError if the program can't be started."""

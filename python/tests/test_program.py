@@ -93,12 +93,12 @@ class Runs(unittest.TestCase):
                 self.assertTrue(run.finish(Output(file.fileno())).line.startswith(line))
 
     def test_nothing_that_python_warns_of(self) -> None:
-        """Not where a program is begun again, nor where it is collected with others before what is its own."""
+        """Not where a program is begun again, nor where it is collected with others before what is its own, nor where Python ends."""
         script = (
             "import gc, sys\nfrom gavyreto.program import *\n"
             "def run(data):\n    held = Program(command_of(sys.argv[1], PACKET_SIZE, COLUMN_ROOM, MAX_WIRE, CHARSETS[0]))\n    gc.collect()\n"
-            "    for _ in range(3):\n        held.begin(), held.put(data), held.read(1)\n    held._process.others, held.itself = [held], held\n"
-            "gc.disable()\nfor data in bytes.fromhex(sys.argv[2]), bytes.fromhex(sys.argv[3]):\n    run(data), run(data), gc.collect()\n")
+            "    for _ in range(3):\n        held.begin(), held.put(data), held.read(1)\n    held._process.others, held.itself = [held], held\n    return held\n"
+            "gc.disable()\nfor data in bytes.fromhex(sys.argv[2]), bytes.fromhex(sys.argv[3]):\n    run(data), run(data), gc.collect()\nleft = run(data)\n")
         command = [sys.executable, "-X", "dev", "-W", "error", "-c", script, PROGRAM, wire("float").hex(), wire("kinds", 30).hex()]
         came = subprocess.run(command, capture_output=True, check=False, timeout=SECONDS, **started())
         self.assertEqual((came.returncode, came.stderr.decode()), (0, ""))
