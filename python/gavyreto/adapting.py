@@ -224,7 +224,8 @@ class Adapter:
         else:
             self._output.keep(column.spelt())
         self._adapted.append(new and new._replace(info=b""))
-        cast("list[Described]", self._columns).append(column.bare())
+        bare = column._replace(type=column.type._replace(info=b""), spelt_name=b"")  # without what may be long
+        cast("list[Described]", self._columns).append(bare)
         return column.column() if self._note else None
 
     def _row(self, byte: int) -> None:

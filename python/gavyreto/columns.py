@@ -160,10 +160,6 @@ class Described(NamedTuple):
         """As a description has it, or with another type, whose byte comes first."""
         return struct.pack("<IH", self.user_type, self.flags) + (info or bytes([self.type.byte]) + self.type.info) + self.spelt_name
 
-    def bare(self) -> Described:
-        """Without what only its description needs, which may be long."""
-        return self._replace(type=self.type._replace(info=b""), spelt_name=b"")
-
     @property
     def name(self) -> str:
         return self.spelt_name[1:].decode("utf-16-le", "replace")

@@ -391,7 +391,7 @@ def greet(channel: Channel, server: Server, proof: Proof) -> tuple[Encryption, b
     kind, payload = channel.read_message()
     channel.expect_nothing()
     try:
-        answered, is_required = tds.encryption_of(payload), tds.is_token_required(payload)
+        answered, is_required = tds.encryption_of(payload), tds.option_of(payload, tds.TOKEN_REQUIRED) == 1
     except (ValueError, struct.error):
         kind, answered, is_required = -1, Encryption.NOT_SUPPORTED, False
     if kind != PacketType.ANSWER:

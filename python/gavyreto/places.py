@@ -30,10 +30,6 @@ class Place(NamedTuple):
         """What is written to, also until it is whole."""
         return [self.path, self.path + PARTIAL] if self.path else [self.descriptor]
 
-    def stats(self) -> list[os.stat_result]:
-        """What is there of that."""
-        return stats_of(*self.names())
-
     def can_be_written(self) -> bool:
         """Whether it can be opened, as far as that is known before: a descriptor or what is no regular file itself, else the file beside it."""
         if not self.path:
@@ -108,7 +104,7 @@ class Places:
         output, error = (Place(STREAMS[it], it) for it in (STANDARD_OUTPUT, STANDARD_ERROR))
         rows, *packets = places
         files = [it for it in places if it.path]
-        there = {it: it.stats() for it in (*places, output, error)}
+        there = {it: stats_of(*it.names()) for it in (*places, output, error)}
         yield from (f"{it.name}: {why}" for it in (*places, error) for found, why in self._inputs if are_shared([found], there[it]))
         yield from (f"{it.name}: the rows are written to it" for it in packets if {*it.names()} & {*rows.names()} or are_shared(there[it], there[rows]))
         yield from (f"{it.name}: the lines are written to it" for it in (*packets, *files) if are_shared(there[it], there[error]))

@@ -132,12 +132,6 @@ def path_of(program: str) -> str:
 
 # Running it.
 
-def widen(pipe: IO[bytes]) -> None:
-    """Gives a pipe as much room as it may have, so that the two sides wake each other less often."""
-    with contextlib.suppress(OSError):  # what is allowed may be used up
-        fcntl.fcntl(pipe.fileno(), F_SETPIPE_SZ, ROOM_OF_PIPE)
-
-
 @functools.lru_cache(maxsize=None)
 def nothing() -> int:
     """A descriptor of /dev/null, opened once: where it is needed there may be none left."""
@@ -263,7 +257,8 @@ class Program(contextlib.AbstractContextManager["Program"]):
         self._text, self._notes = (cast("IO[bytes]", it).fileno() for it in (process.stdout, process.stderr))
         self._open = {self._text, self._notes}
         for pipe in filter(None, (process.stdin, process.stdout)):
-            widen(pipe)
+            with contextlib.suppress(OSError):  # the two sides wake each other less often; what is allowed may be used up
+                fcntl.fcntl(pipe.fileno(), F_SETPIPE_SZ, ROOM_OF_PIPE)
         given = process.stdin.fileno() if process.stdin else -1
         if process.stdin:
             os.set_blocking(given, False)

@@ -194,7 +194,8 @@ class Records:
         is_over = False
         while not is_over:
             self._need(2)
-            end = _end_of(pattern, self.rest) // unit * unit
+            found = pattern.match(self.rest)
+            end = (found.end() if found else 0) // unit * unit
             piece, self.rest = read(self.rest[:end]), self.rest[end:]
             is_over = len(self.rest) > 1
             self.rest = self.rest[is_over and begin == '"':]
@@ -209,8 +210,3 @@ def joined(field: OpenField) -> Union[str, bytes]:
     for piece in field.pieces:
         value.write(piece if isinstance(piece, bytes) else b"")
     return value.getvalue()
-
-
-def _end_of(pattern: re.Pattern[str], text: str) -> int:
-    found = pattern.match(text)
-    return found.end() if found else 0

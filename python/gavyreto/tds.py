@@ -121,19 +121,14 @@ def prelogin(encryption: Encryption, is_token: bool = False) -> bytes:
 
 def encryption_of(payload: bytes) -> Encryption:
     """The option ENCRYPTION of a PRELOGIN. Raises ValueError or struct.error if it isn't there, or has another value."""
-    value = _option_of(payload, 1)
+    value = option_of(payload, 1)
     if value is None:
         raise ValueError("a PRELOGIN without the option ENCRYPTION")
     return Encryption(value)
 
 
-def is_token_required(payload: bytes) -> bool:
-    """Whether a PRELOGIN says by FEDAUTHREQUIRED that it takes tokens. Raises struct.error."""
-    return _option_of(payload, TOKEN_REQUIRED) == 1
-
-
-def _option_of(payload: bytes, number: int) -> Optional[int]:
-    """The first byte of an option of a PRELOGIN; None if it isn't there."""
+def option_of(payload: bytes, number: int) -> Optional[int]:
+    """The first byte of an option of a PRELOGIN; None if it isn't there. Raises struct.error."""
     at = 0
     while payload[at:at + 1] not in (b"", b"\xFF"):
         option, place, length = struct.unpack_from(">BHH", payload, at)

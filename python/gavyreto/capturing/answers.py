@@ -59,7 +59,7 @@ class Answers:
     def lose_of_client(self, start: int, end: int) -> None:
         """Bytes of the client are lacking, between two places."""
         self.is_client_whole = False
-        self.pending.lose(start, end)
+        self.pending.hole = start, end
 
     def go_on(self) -> None:
         """The connection has been there, and its client was known; greeting and login are past."""

@@ -155,7 +155,7 @@ class Connections:
                     return None
                 conversation = conversation or self._begin_with(key, segment, ended)
         if conversation and conversation.comes_again(is_client, segment):
-            self._compare(key, conversation, conversation.next_of(is_client), is_client, segment, time)
+            self._compare(key, conversation, conversation.streams(is_client)[0].place, is_client, segment, time)
         return conversation
 
     def _begin_with(self, key: bytes, segment: Segment, ended: Optional[Ended]) -> Optional[Conversation]:

@@ -49,7 +49,7 @@ class Conversation:
     def contradicts(self, is_client: bool, segment: Segment) -> bool:
         """Whether a segment has numbers that no segment of this connection has: before its beginning, or far after all that it
         shows. A SYN has to be the same."""
-        stream, other = self._streams(is_client)
+        stream, other = self.streams(is_client)
         if segment.flags & SYN and stream.is_begun():
             if stream.first is not None and stream.first != segment.sequence:
                 return True
@@ -61,31 +61,28 @@ class Conversation:
 
     def is_far_ahead(self, is_client: bool, segment: Segment) -> bool:
         """Whether a segment has numbers far after all that is shown of this connection."""
-        stream, other = self._streams(is_client)
+        stream, other = self.streams(is_client)
         return _is_ahead(stream, segment.sequence) or bool(segment.flags & ACK) and _is_ahead(other, segment.acknowledged)
 
     def is_near(self, is_client: bool, segment: Segment) -> bool:
         """Whether a segment, which is no SYN, has both numbers among those of what is there, or close after it."""
-        stream, other = (self.client, self.server) if is_client else (self.server, self.client)
+        stream, other = self.streams(is_client)
         return segment.flags & (SYN | ACK) == ACK and stream.is_near(segment.sequence) and other.is_near(segment.acknowledged)
 
-    def _streams(self, is_client: bool) -> tuple[Stream, Stream]:
+    def streams(self, is_client: bool) -> tuple[Stream, Stream]:
+        """The one of a side, and the other."""
         return (self.client, self.server) if is_client else (self.server, self.client)
 
     def comes_again(self, is_client: bool, segment: Segment) -> bool:
         """Whether a segment may be one of a connection that comes again as a whole: a SYN after bytes of both sides, or a copy."""
-        stream, other = self._streams(is_client)
+        stream, other = self.streams(is_client)
         if segment.flags & SYN:
             return stream.delivered > 0 and other.delivered > 0
         return bool(segment.data) and stream.place_of(segment.sequence) < stream.place
 
-    def next_of(self, is_client: bool) -> int:
-        """The place of the next byte of a side."""
-        return self._streams(is_client)[0].place
-
     def start_of(self, is_client: bool) -> int:
         """The sequence number of the first byte of a side."""
-        return self._streams(is_client)[0].start % SPACE
+        return self.streams(is_client)[0].start % SPACE
 
     def first(self) -> tuple[Optional[int], Optional[int]]:
         """The sequence numbers of both SYNs, as far as they are there."""
@@ -94,7 +91,7 @@ class Conversation:
     def disown(self, is_client: bool, segment: Segment) -> None:
         """A SYN came of another connection of these ports: what only one number showed that is its first one was shown of that."""
         if segment.flags & SYN:
-            stream, other = self._streams(is_client)
+            stream, other = self.streams(is_client)
             stream.disown((segment.sequence + 1) % SPACE)
             if segment.flags & ACK:
                 other.disown(segment.acknowledged)
@@ -123,7 +120,7 @@ class Conversation:
     def take(self, is_client: bool, segment: Segment, time: int) -> None:
         """A segment came. Of one with a wrong checksum only the numbers count: it was sent, and nobody took it."""
         self._time = time
-        stream, other = self._streams(is_client)
+        stream, other = self.streams(is_client)
         flags, sequence = segment.flags, segment.sequence
         if flags & SYN:
             self._open(is_client, stream, sequence)

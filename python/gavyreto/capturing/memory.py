@@ -14,7 +14,7 @@ class Memory:
 
     def __init__(self) -> None:
         self.held = 0
-        self._holders: OrderedDict[Share, None] = OrderedDict()
+        self.holders: OrderedDict[Share, None] = OrderedDict()
         self._sums: deque[tuple[dict[int, Any], int]] = deque()
 
     def remember(self, sums: dict[int, Any], key: int) -> None:
@@ -26,21 +26,13 @@ class Memory:
 
     def shorten(self) -> None:
         """Sees to it that no more is held than may be: those that were silent for longest hold less."""
-        while self.held > MOST_HELD and self._holders:
-            next(iter(self._holders)).shorten()
-
-    def begin(self, share: Share) -> None:
-        """A share has something."""
-        self._holders[share] = None
-
-    def end(self, share: Share) -> None:
-        """A share has nothing any more."""
-        del self._holders[share]
+        while self.held > MOST_HELD and self.holders:
+            next(iter(self.holders)).shorten()
 
     def touch(self, share: Share) -> None:
         """A share is that of a connection that is active."""
         if share.held:
-            self._holders.move_to_end(share)
+            self.holders.move_to_end(share)
 
 
 class Share:
@@ -56,9 +48,9 @@ class Share:
         before, self.held = self.held, self.held + size
         self.memory.held += size
         if not before and self.held:
-            self.memory.begin(self)
+            self.memory.holders[self] = None
         elif before and not self.held:
-            self.memory.end(self)
+            del self.memory.holders[self]
 
     def close(self) -> None:
         """Its connection has ended."""

@@ -21,7 +21,7 @@ class Pending:
         self._accounts, self._tell = accounts, tell
         self._requests: list[Request] = []
         self._acknowledged = 0  # attentions that an answer has acknowledged before they came
-        self._hole = (0, 0)  # the last bytes of the client that are lacking: the place of the first, and that after them
+        self.hole = (0, 0)  #: the last bytes of the client that are lacking: the place of the first, and that after them
 
     def __bool__(self) -> bool:
         return bool(self._requests)
@@ -45,15 +45,11 @@ class Pending:
         if len(self._requests) > MOST_PENDING:
             self.pass_first()
 
-    def lose(self, start: int, end: int) -> None:
-        """Bytes of the client are lacking, between two places."""
-        self._hole = (start, end)
-
     def find(self, place: int, acknowledged: int) -> Optional[Request]:
         """What the answer at a place answers: the last request that was sent when the client had all before that place, and that the
         server had begun to read. Only what acknowledges an attention answers it; so it is taken only if there is nothing else."""
         found: Optional[Request] = None
-        start, end = self._hole
+        start, end = self.hole
         for request in self._requests:
             if request.acknowledged > place or request.start >= acknowledged:
                 break

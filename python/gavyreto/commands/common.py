@@ -297,12 +297,12 @@ class Input(io.FileIO):
 def open_response(name: str) -> io.BufferedReader:
     """A recorded response. Raises `Stopped` if it can't be read, or is something else."""
     source = Input(name)
-    check_input(source.fileno(), "the response is")
-    file = io.BufferedReader(source)
-    other = other_than_response(file.peek(LONGEST_HEAD))
-    if other:
-        file.close()
-        raise Stopped(f"{source.shown} is {other}", BAD_INPUT)
+    with contextlib.ExitStack() as held:
+        file = held.enter_context(io.BufferedReader(source))
+        check_input(source.fileno(), "the response is")
+        if other := other_than_response(file.peek(LONGEST_HEAD)):
+            raise Stopped(f"{source.shown} is {other}", BAD_INPUT)
+        held.pop_all()
     return file
 
 
