@@ -396,17 +396,18 @@ class Commands(Live):
 
     def test_an_output_that_loses_its_name(self) -> None:
         """What was written there goes with the name, or nobody finds it."""
-        moves = {"renamed": lambda: os.rename(self.path("out"), self.path("renamed")), "removed": lambda: os.remove(self.path("out"))}
-        for how, move in moves.items():
+        for is_kept in (False, True):
             for is_replaced in (False, True):
-                own = started() | {"stdin": subprocess.PIPE, "stderr": subprocess.PIPE}
-                with self.subTest(how=how, is_replaced=is_replaced), subprocess.Popen(
+                own: dict[str, Any] = started() | {"stdin": subprocess.PIPE, "stderr": subprocess.PIPE}
+                with self.subTest(is_kept=is_kept, is_replaced=is_replaced), subprocess.Popen(
                         [sys.executable, "-m", "gavyreto", "adapt", "-o", "out"], cwd=self.folder, **own) as run:
                     given = cast(IO[bytes], run.stdin)
                     given.write(wire("float")[:20])
                     given.flush()
                     wait_for(lambda: os.path.exists(self.path("out")))
-                    move()
+                    os.rename(self.path("out"), self.path("renamed"))
+                    if not is_kept:
+                        os.remove(self.path("renamed"))
                     if is_replaced:
                         with open(self.path("out"), "xb") as file:
                             file.write(b"another")

@@ -547,7 +547,7 @@ class Connections(Live):
                 thread.start()
                 asked.wait(SECONDS)
                 time.sleep(0.05)
-                (connection if closes_all else came).close()
+                cast(Any, connection if closes_all else came).close()
                 thread.join(SECONDS)
                 self.assertRegex(str(failed[0]), "^(the reading was closed|the server closed the connection)$")
                 self.assertIsNone(came._program._process)
