@@ -134,6 +134,12 @@ def running(command: list[str]) -> tuple[Program, str]:
     return _running.program, wanted[1]
 
 
+def kill_all() -> None:
+    """Ends the exports under way: they fail."""
+    for it in list(_all):
+        it.kill()
+
+
 def end_all() -> None:
     """Ends the programs of all threads, once none of them exports."""
     while _all:

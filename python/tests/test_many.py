@@ -206,6 +206,18 @@ class Here(Many):
         self.assertEqual(self.many("--program", slow, "in", "out")[0], 0)
         self.assertEqual(self.runs(), before)
 
+    def test_a_program_that_hangs_keeps_no_command(self) -> None:
+        """One that is stopped doesn't wait for the end of a response, nor begins another."""
+        self.store(4)
+        hanging = self.script('test "$1" = --version && exec $PROGRAM --version\necho run >> runs\nexec sleep 1000')
+        for number, status in (signal.SIGTERM, 143), (signal.SIGINT, 130):
+            with self.subTest(number=number), self.beginning("-j", "2", "--program", hanging, "in", "out") as process:
+                wait_for(lambda: os.path.exists(self.path("runs")) and self.runs() == 2)
+                process.send_signal(number)
+                self.assertEqual((process.wait(SECONDS), process.communicate()[1].count(b"\n")), (status, 1))
+                self.assertEqual((self.runs(), os.listdir(self.path("out"))), (2, ["outcomes.csv"]))
+                os.remove(self.path("runs"))
+
     def test_what_changed_or_lost_its_text_is_done_again(self) -> None:
         names = self.store(3)
         self.many("--program", PROGRAM, "in", "out")

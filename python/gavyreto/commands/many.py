@@ -24,7 +24,7 @@ from typing import Any, Iterator, Optional, Union
 
 from gavyreto import outcomes
 from gavyreto.commands.common import STANDARD_ERROR, STREAMS, Stopped, add_options_of_program, cause_of, checked_program, command_for, folder_of_texts, named, number_in, parser_of
-from gavyreto.exporting import Outcome, Stamp, end_all, export_file, stamp_of, version_of
+from gavyreto.exporting import Outcome, Stamp, end_all, export_file, kill_all, stamp_of, version_of
 from gavyreto.outcomes import PARTIAL, TABLE, TEXT, Progress, remove_unfinished, summed
 from gavyreto.places import stats_of
 from gavyreto.program import DONE, FAILED, INTERRUPTED, REFUSED, SERVER_ERROR
@@ -138,9 +138,11 @@ class Here(contextlib.nullcontext[None]):
                 for it in list(running):
                     yield it.result()
             except BaseException:
-                pool.shutdown(wait=True, cancel_futures=True)
+                pool.shutdown(wait=False, cancel_futures=True)
+                kill_all()  # nobody waits for a long response, or for a program that hangs
                 raise
             finally:
+                pool.shutdown()
                 end_all()
 
 
