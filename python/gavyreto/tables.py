@@ -78,15 +78,7 @@ class Record(outcomes.Record):
     program: str
 
 
-class Outcome(NamedTuple):
-    """How the export of an item ended: its text waits at `waiting` for its name if the answer itself decided it."""
-
-    item: Item
-    status: int
-    line: str
-    began: int
-    waiting: Optional[str] = None
-    written: int = 0
+Outcome = tuple[Record, Optional[str]]  # how the export of an item ended, and the text that waits for its name if the answer itself decided it
 
 
 class Worker:
@@ -101,51 +93,51 @@ class Worker:
 
     def export(self, item: Item) -> Outcome:
         """Exports an answer. Raises what ends all of them: a login that was refused."""
-        began, line = time.time_ns(), ""
+        record = Record(item.name, FAILED, "interrupted", None, 0, time.time_ns(), item.statement, self._asked.options, self._asked.version)
         for attempt in range(self._asked.retries + 1):
             if attempt > 1:
                 self._is_stopped.wait(min(2 ** (attempt - 2), MOST_PAUSE))
             try:
-                return self._exported(item, began)
+                return record, self._exported(item, record)
             except Broken as broken:
-                line = str(broken)
+                record.line = str(broken)
             if self._is_stopped.is_set():
                 break
-        return Outcome(item, FAILED, line, began)
+        return record, None
 
-    def _exported(self, item: Item, began: int) -> Outcome:
-        """The same, once. Raises `Broken` if the connection breaks, or can't be made."""
-        waiting = waiting_in(self._asked.output)
-        outcome = Outcome(item, FAILED, "interrupted", began)
+    def _exported(self, item: Item, record: Record) -> Optional[str]:
+        """The same, once, with the text that waits. Raises `Broken` if the connection breaks, or can't be made."""
+        waiting, is_decided = waiting_in(self._asked.output), False
         try:
             with open(waiting, "xb") as out:
                 session = self._open_session()
                 ending = self._asking(session).answer(item.statement, program.Output(out.fileno()))
                 os.fsync(out.fileno())
                 is_decided = ending.status in (DONE, SERVER_ERROR, BAD_INPUT)
-                line = ending.notes.rstrip("\n").split("\n")[0 if ending.status == DONE else -1]
-                outcome = Outcome(item, ending.status, line, began, waiting if is_decided else None, os.fstat(out.fileno()).st_size)
+                record.status, record.written = ending.status, os.fstat(out.fileno()).st_size
+                record.line = ending.notes.rstrip("\n").split("\n")[0 if ending.status == DONE else -1]
             if not item.is_table:
                 session.end()  # what it set would hold for what is asked next, as SET ROWCOUNT
             elif session.is_ready():
                 session.expect_nothing()
         except BadAnswer as wrong:
-            outcome = outcome._replace(status=BAD_INPUT, line=str(wrong))
+            record.status, record.line = BAD_INPUT, str(wrong)
         except program.OutputFailed as failed:
-            outcome = outcome._replace(line=f"{self._asked.output}: {cause_of(failed.failure)}")
+            record.line = f"{self._asked.output}: {cause_of(failed.failure)}"
         except OSError as failure:
-            outcome = Outcome(item, FAILED, f"{failure.filename or self._asked.output}: {cause_of(failure)}", began)
+            is_decided, record.written = False, 0
+            record.status, record.line = FAILED, f"{failure.filename or self._asked.output}: {cause_of(failure)}"
         except Broken:
             raise
         except Stopped as stopped:
-            outcome = outcome._replace(status=stopped.status, line=str(stopped))
+            record.status, record.line = stopped.status, str(stopped)
         finally:
-            if self._session and (outcome.waiting is None or not self._session.is_ready()):
+            if self._session and not (is_decided and self._session.is_ready()):
                 self._session.close()
-            if outcome.waiting is None:
+            if not is_decided:
                 with contextlib.suppress(OSError):
                     os.remove(waiting)
-        return outcome
+        return waiting if is_decided else None
 
     def _open_session(self) -> Session:
         """The connection, or a new one if there is none on which an answer would count. Raises `Broken` if it can't be made."""
@@ -255,15 +247,14 @@ class Workers:
 def export(asked: argparse.Namespace, items: list[Item], connect: Connect) -> int:
     """Exports the answer to each item, and returns the greatest status. The first login comes before anything is written."""
     with folder_of_texts(asked.output), contextlib.ExitStack() as stack:
-        table = outcomes.Table(asked.output, Record)
-        workers, version = Workers(asked, connect, connect()), version_of(asked.program)
+        table, asked.version = outcomes.Table(asked.output, Record), version_of(asked.program)
+        workers = Workers(asked, connect, connect())
         names = {item.name for item in items}
         table.begin(names, names)
         progress, failed = Progress("tables", len(items), 0), 0
         try:
-            for it in stack.enter_context(contextlib.closing(workers.outcomes(items))):
-                record = Record(it.item.name, it.status, it.line, None, it.written, it.began, it.item.statement, asked.options, version)
-                failed += table.add(record, it.item.name, it.waiting).status not in (DONE, SERVER_ERROR)
+            for record, waiting in stack.enter_context(contextlib.closing(workers.outcomes(items))):
+                failed += table.add(record, record.name, waiting).status not in (DONE, SERVER_ERROR)
                 progress.step(failed)
         except KeyboardInterrupt:
             raise Stopped("interrupted: begun again all are asked again", INTERRUPTED) from None

@@ -131,14 +131,11 @@ def ending_of(failure: BaseException) -> tuple[str, int]:
     """The line that tells what ended a command, and its exit status."""
     if isinstance(failure, (Stopped, Signalled)):
         return str(failure), failure.status
-    if isinstance(failure, ServerError):
-        return str(failure), SERVER_ERROR
+    for kind, status in (ServerError, SERVER_ERROR), (BadAnswer, BAD_INPUT), (ConnectionFailed, FAILED):
+        if isinstance(failure, kind):
+            return str(failure), status
     if isinstance(failure, Ended):
         return "the response ends before its last packet", BAD_INPUT
-    if isinstance(failure, BadAnswer):
-        return str(failure), BAD_INPUT
-    if isinstance(failure, ConnectionFailed):
-        return str(failure), FAILED
     if isinstance(failure, OSError):
         name = os.fsdecode(failure.filename) if isinstance(failure.filename, (str, bytes)) else "a read or a write"
         return f"{name}: {cause_of(failure)}", FAILED
