@@ -29,6 +29,7 @@ from gavyreto.outcomes import PARTIAL, TABLE, TEXT, Progress, remove_unfinished,
 from gavyreto.places import stats_of
 from gavyreto.program import DONE, FAILED, INTERRUPTED, REFUSED, SERVER_ERROR
 
+SECONDS_BETWEEN = 0.05  # two looks at whether exports have ended
 SECONDS_OF_SCHEDULER = 30  # the longest that it may be silent, or that its file is waited for
 
 
@@ -139,7 +140,9 @@ class Here(contextlib.nullcontext[None]):
                     yield it.result()
             except BaseException:
                 pool.shutdown(wait=False, cancel_futures=True)
-                kill_all()  # nobody waits for a long response, or for a program that hangs
+                while any(it.running() for it in running):  # nobody waits for a long response, or for a program that hangs
+                    kill_all()
+                    time.sleep(SECONDS_BETWEEN)  # one may be about to start
                 raise
             finally:
                 pool.shutdown()
