@@ -39,7 +39,8 @@ class Connection(Single, contextlib.AbstractContextManager["Connection"]):
             if not kind:
                 self._session.end()
         finally:
-            self._session.close()
+            if answer is None or answer.is_left or answer.is_whole:  # else a call reads from it, and closes all of it
+                self._session.close()
             if self._program and (answer is None or answer.is_whole):  # else it was closed with the answer, or will be
                 self._program.close()
 

@@ -465,12 +465,12 @@ class Session(contextlib.AbstractContextManager["Session"]):
         self.close()
 
     def close(self, why: str = "a call of close") -> None:
-        if self.closed_after is None:
-            self.closed_after = why
-            self._channel.close()
+        self.closed_after = self.closed_after or why
+        self._channel.close()
 
     def abandon(self) -> None:
-        """Cuts the connection, while somebody waits for it, who finds that it has ended."""
+        """Cuts the connection, while somebody waits for it, who finds that it has ended, and closes it."""
+        self.closed_after = self.closed_after or "a call of close"
         self._channel.cut()
 
     def end(self) -> None:
@@ -480,7 +480,8 @@ class Session(contextlib.AbstractContextManager["Session"]):
             self.close()
             if surplus:
                 raise BadAnswer(UNASKED)
-        self.close()
+        elif self.closed_after is None:
+            self.close()
 
     @contextlib.contextmanager
     def _open(self) -> Iterator[None]:

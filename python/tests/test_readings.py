@@ -521,8 +521,8 @@ class Connections(Live):
 
     def test_a_connection_that_is_closed_by_another_thread(self) -> None:
         """Who waits for rows, or for the first of them, doesn't wait any longer, and all of it is closed."""
-        held = tds.packet(tds.PacketType.ANSWER, b"".join(responses.order_rows(0)), False)
-        for answer, adapt, closes_all in product((b"", held), (False, True), (False, True)):
+        held, numbers = tds.packet(tds.PacketType.ANSWER, b"".join(responses.order_rows(0)), False), random.Random(8)
+        for answer, adapt, closes_all, _ in product((b"", held), (False, True), (False, True), range(3)):
             asked = threading.Event()
 
             def serve(channel: Channel) -> None:
@@ -546,10 +546,10 @@ class Connections(Live):
                 thread = threading.Thread(target=read)
                 thread.start()
                 asked.wait(SECONDS)
-                time.sleep(0.05)
+                time.sleep(numbers.choice((0, 0, 0.001, 0.01, 0.05)))
                 cast(Any, connection if closes_all else came).close()
                 thread.join(SECONDS)
-                self.assertRegex(str(failed[0]), "^(the reading was closed|the server closed the connection)$")
+                self.assertRegex(str(failed[0]), "^(the reading was closed|the server closed the connection|the connection was closed after: a call of close)$")
                 self.assertIsNone(came._program._process)
                 with self.assertRaisesRegex(gavyreto.ConnectionFailed, "closed after"):
                     connection.query("x", program=PROGRAM)
