@@ -4,7 +4,6 @@ from __future__ import annotations
 import contextlib
 import errno
 import fcntl
-import functools
 import os
 import re
 import select
@@ -132,12 +131,6 @@ def path_of(program: str) -> str:
 
 # Running it.
 
-@functools.lru_cache(maxsize=None)
-def nothing() -> int:
-    """A descriptor of /dev/null, opened once: where it is needed there may be none left."""
-    return os.open(os.devnull, os.O_WRONLY | os.O_CLOEXEC)
-
-
 def status_after(process: subprocess.Popen[bytes]) -> Optional[int]:
     """The status of a process, once it has ended. An interrupt within a call of Popen can leave its lock taken, for which its
     own wait would wait without end. None if the status is lost: by an interrupt, or to a caller that ignores SIGCHLD."""
@@ -223,6 +216,7 @@ class Program(contextlib.AbstractContextManager["Program"]):
         self._pipe: Optional[IO[bytes]] = None  # that of the input, whose number stays its own as long as somebody may hand over
         self._drop_pipe: Callable[[], object] = lambda: None  # is called then
         self._input = self._text = self._notes = -1
+        self._nothing = list[int]()  # what takes the place of the input, where there may be no descriptor left to open
         self._open: set[int] = set()  # those of text and lines that haven't ended
         self._lines, self._taken, self._handed = "", 0, 0  # of this response
         self._said: Said = None  # once its lines have come
@@ -248,8 +242,9 @@ class Program(contextlib.AbstractContextManager["Program"]):
     def _start(self) -> None:
         """Starts it in a session of its own, so that Ctrl-C doesn't end it before it has written what came. It is there once all of it is
         known: an interrupt leaves none that is known in part."""
-        nothing()
         self._drop_pipe()
+        if not self._nothing and self._source is None:
+            self._nothing.append(os.open(os.devnull, os.O_WRONLY | os.O_CLOEXEC))
         words = self.command if self._source is not None else [*self.command[:2], "--all", *self.command[2:]]
         process = subprocess.Popen(
             words, bufsize=0, stdin=subprocess.PIPE if self._source is None else self._source, stdout=subprocess.PIPE, stderr=subprocess.PIPE,
@@ -275,8 +270,7 @@ class Program(contextlib.AbstractContextManager["Program"]):
         is_under_way = self._is_under_way()
         if is_under_way:
             self.kill()  # before its input ends, to which it would have an answer
-        if self._pipe:
-            self._close_input()
+        self._close_input()
         process = self._process
         if process and cast("IO[bytes]", process.stderr).closed:  # what is collected with this may be closed before, and others have its numbers
             self._open.clear()
@@ -297,6 +291,7 @@ class Program(contextlib.AbstractContextManager["Program"]):
     def let_go(self) -> None:
         """Has no part in it any more, in a process that was forked off: with a copy of a pipe it would go on for ever."""
         process, self._process, self._pipe, self._open = self._process, None, None, set()
+        self._close_input()
         if process:
             process.returncode = DONE
             for pipe in filter(None, (process.stdin, process.stdout, process.stderr)):
@@ -362,8 +357,11 @@ class Program(contextlib.AbstractContextManager["Program"]):
     def _close_input(self) -> None:
         """Puts something else in the place of the input, whose number another thread may have."""
         self.is_reading = False
-        if self._pipe and not self._pipe.closed:
-            os.dup2(nothing(), self._input, inheritable=False)
+        with contextlib.suppress(IndexError):  # it was done before
+            nothing = self._nothing.pop()
+            if self._pipe and not self._pipe.closed:
+                os.dup2(nothing, self._input, inheritable=False)
+            os.close(nothing)
 
     # Taking.
 

@@ -92,6 +92,18 @@ class Runs(unittest.TestCase):
                 run.cut()
                 self.assertTrue(run.finish(Output(file.fileno())).line.startswith(line))
 
+    def test_a_process_that_closes_all_that_it_got(self) -> None:
+        """As one does that goes on in the background: programs that it starts don't need what was there before."""
+        with Program(command()) as run:
+            self.assertEqual(ended(run, ORDERED)[0].status, DONE)
+            child = os.fork()
+            if not child:
+                os.closerange(3, 256)
+                with Program(command()) as other:
+                    is_well = [ended(other, data, True)[0].status for data in (ORDERED[:20], ORDERED)] == [BAD_INPUT, DONE]
+                os._exit(not is_well)
+            self.assertEqual(os.waitpid(child, 0)[1], 0)
+
     def test_nothing_that_python_warns_of(self) -> None:
         """Not where a program is begun again, nor where it is collected with others before what is its own, nor where Python ends."""
         script = (
