@@ -356,7 +356,7 @@ class Captures(unittest.TestCase):
             made.write(cast(BinaryIO, run.stdin))
             cast(BinaryIO, run.stdin).flush()
             cast(BinaryIO, run.stdout).readline()
-            wait_for(lambda: is_waiting(run.pid))
+            wait_for(lambda: any(Path(self.folder, "out").glob("*.csv")) and is_waiting(run.pid))
             run.terminate()
             self.assertEqual(cast(BinaryIO, run.stderr).read(), b"ended by SIGTERM\n")
         self.assertEqual((run.returncode, [it for it in os.listdir(os.path.join(self.folder, "out")) if not it.endswith(".csv")]), (143, []))
