@@ -139,7 +139,7 @@ pub(crate) fn leading_zeros(n: u32) -> usize
 
 // A number of at most four digits.
 #[inline(always)]
-fn put_4(to: &mut [u8], at: usize, n: u32) -> usize
+pub(crate) fn put_4(to: &mut [u8], at: usize, n: u32) -> usize
     requires room { at + 4 ≤ length to.old }
     requires small { n < 10000 }
     ensures end { result ≤ at + 4 }
