@@ -88,9 +88,9 @@ plain_front N.zero xs h = tt
 plain_front (N.suc k) [] h = tt
 plain_front (N.suc k) (b ∷ xs) h = grind (arith, plain_front k xs)
 
--- some of those that were found among the next 16 of a source
-pub plain_among : (source bytes : List ℕ) (at n : ℕ) → n ≤ N.prefix_len is_plain (chunk at 16 source)
-    → take n (drop at bytes) ≡ take n (chunk at 16 source) → ArePlain (take n (drop at bytes))
+-- some of those that were found among the next `w` of a source
+pub plain_among : (source bytes : List ℕ) (at n w : ℕ) → n ≤ N.prefix_len is_plain (chunk at w source)
+    → take n (drop at bytes) ≡ take n (chunk at w source) → ArePlain (take n (drop at bytes))
 plain_among = grind (arith, plain_front)
 
 -- with their quotes doubled they are as they were
@@ -106,9 +106,9 @@ pub plain_utf8 : (bytes : List ℕ) → ArePlain bytes → N.IsUtf8 bytes
 plain_utf8 [] plain = N.IsUtf8-nil
 plain_utf8 (b ∷ bytes) plain = N.IsUtf8-append (b ∷ []) bytes (grind (arith, one_utf8)) (plain_utf8 bytes plain.1)
 
--- all of the next 32, if no stop was found among them
-pub plain_wide : (bytes : List ℕ) (at : ℕ) → N.first_set 0 32 ≡ N.prefix_len is_plain (chunk at 32 bytes) → ArePlain (chunk at 32 bytes)
-plain_wide bytes at all = rw (N.take-take 32 32 (drop at bytes) (omega arith)) at (plain_front 32 (chunk at 32 bytes) (omega (arith, all)))
+-- all of the next `w`, if no stop was found among them
+pub plain_next : (w : ℕ) (bytes : List ℕ) (at : ℕ) → N.first_set 0 w ≡ N.prefix_len is_plain (chunk at w bytes) → ArePlain (chunk at w bytes)
+plain_next w bytes at all = rw (N.take-take w w (drop at bytes) (omega arith)) at (plain_front w (chunk at w bytes) (omega (arith, all)))
 
 -- bytes and others that are
 pub plain_both : (xs ys : List ℕ) → ArePlain xs → ArePlain ys → ArePlain (xs ++ ys)

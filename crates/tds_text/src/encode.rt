@@ -6,7 +6,7 @@ ghost use Rattle.std.specs.Simd.Lanes.{chunk};
 ghost use Rattle.tds_text.specs.Plain.{ArePlain, LiesAhead, first_set};
 ghost use Rattle.tds_text.specs.Quoting.{doubled};
 
-use crate::lanes::{LANES, WIDE, first_set, plain_run};
+use crate::lanes::{BLOCK, WIDE, first_set, plain_stops};
 use std::simd::prelude::*;
 use tds_values::put_byte;
 
@@ -92,25 +92,27 @@ pub(crate) fn put_lanes<const N: usize>(to: &mut [u8], at: usize, lanes: Simd<u8
     lanes.copy_to_slice(&mut to[at..]);
 }
 
-// Writes the next bytes of ASCII up to a quote, at most 16, to a place, and returns how many. The source begins with the
+// Writes the next bytes of ASCII up to a quote, at most `N`, to a place, and returns how many. The source begins with the
 // bytes, and what follows them may be looked at too.
 #[inline(always)]
-pub(crate) fn take_plain(
+pub(crate) fn take_plain<const N: usize>(
     bytes: &[u8],
     source: &[u8],
     at: usize,
     to: &mut [u8],
     made: usize,
 ) -> usize
-    requires ahead { LiesAhead bytes.now source.now at LANES }
-    requires room { made + LANES ≤ length to.old }
-    ensures most { result ≤ LANES }
+    requires few { N ≤ BLOCK }
+    requires ahead { LiesAhead bytes.now source.now at N }
+    requires room { made + N ≤ length to.old }
+    ensures most { result ≤ N }
     ensures within { at + result ≤ length bytes.now }
     ensures plain { ArePlain (take result (drop at bytes.now)) }
     ensures taken { take (made + result) to.new ≡ take made to.old ++ take result (drop at bytes.now) }
 {
-    let n = plain_run(source, at).min(bytes.len() - at);
-    put_lanes(to, made, u8x16::from_slice(&source[at..]), n);
+    let n = first_set(plain_stops::<N>(source, at), N).min(bytes.len() - at);
+    let lanes = Simd::<u8, N>::from_slice(&source[at..]);
+    put_lanes(to, made, lanes, n);
     n
 }
 
@@ -131,4 +133,29 @@ pub(crate) fn take_before(bytes: &[u8], at: usize, stops: u64, to: &mut [u8], ma
     let n = first_set(stops, WIDE);
     put_lanes(to, made, lanes, n);
     n
+}
+
+// Writes bytes as they are, `N` at a time, as long as all of them are of ASCII, none is a quote, and there is room. Returns the
+// place after them, where those before `from` are so, and are written.
+#[inline(always)]
+pub(crate) fn put_plain<const N: usize>(bytes: &[u8], from: usize, to: &mut [u8]) -> usize
+    requires some { 1 ≤ N }
+    requires few { N ≤ BLOCK }
+    requires from { from ≤ length bytes.now }
+    requires room { from ≤ length to.old }
+    requires plain { ArePlain (take from bytes.now) }
+    requires before { take from to.old ≡ take from bytes.now }
+    ensures within { result ≤ length bytes.now }
+    ensures fits { result ≤ length to.new }
+    ensures plain { ArePlain (take result bytes.now) }
+    ensures text { take result to.new ≡ take result bytes.now }
+{
+    let end = bytes.len().min(to.len());
+    let mut at = from;
+    while end - at >= N && plain_stops::<N>(bytes, at) == 0 {
+        let lanes = Simd::<u8, N>::from_slice(&bytes[at..]);
+        put_lanes(to, at, lanes, N);
+        at += N;
+    }
+    at
 }

@@ -16,6 +16,9 @@ pub const WIDE: usize = 32;
 /// How many bytes of room are wanted where 32 bytes are looked at together.
 pub const PART: usize = 2 * WIDE;
 
+/// How many bytes are looked at together as long as all of them are of ASCII.
+pub(crate) const BLOCK: usize = 64;
+
 /// How many bytes a text in Windows-1252 has at least that is written by a call; a shorter one is better off without.
 pub(crate) const MANY: usize = 2 * WIDE;
 
@@ -44,17 +47,6 @@ pub(crate) fn unquoted_run(bytes: &[u8], at: usize) -> usize
     first_set(quotes.to_bitmask(), LANES)
 }
 
-// How many of the next 16 bytes come before the first among them that is a quote or isn't of ASCII.
-#[inline(always)]
-pub(crate) fn plain_run(bytes: &[u8], at: usize) -> usize
-    requires { at + LANES ≤ length bytes.now }
-    ensures { result ≡ prefix_len is_plain (chunk at LANES bytes.now) }
-{
-    let lanes = u8x16::from_slice(&bytes[at..]);
-    let stops = lanes.simd_eq(u8x16::splat(0x22)) | lanes.simd_ge(u8x16::splat(0x80));
-    first_set(stops.to_bitmask(), LANES)
-}
-
 // How many of the next 16 bytes, each looked at with the byte after it, come before the first that can't be in a text whose
 // characters have one or two bytes, or is a quote.
 #[inline(always)]
@@ -81,13 +73,15 @@ pub(crate) fn wide_quotes(bytes: &[u8], at: usize) -> u64
     quotes.to_bitmask()
 }
 
-// Which of the next 32 bytes are quotes or aren't of ASCII, the first by the lowest bit.
+// Which of the next `N` bytes are quotes or aren't of ASCII, the first by the lowest bit.
 #[inline(always)]
-pub(crate) fn wide_stops(bytes: &[u8], at: usize) -> u64
-    requires { at + WIDE ≤ length bytes.now }
-    ensures { first_set result WIDE ≡ prefix_len is_plain (chunk at WIDE bytes.now) }
+pub(crate) fn plain_stops<const N: usize>(bytes: &[u8], at: usize) -> u64
+    requires few { N ≤ BLOCK }
+    requires there { at + N ≤ length bytes.now }
+    ensures { first_set result N ≡ prefix_len is_plain (chunk at N bytes.now) }
 {
-    let lanes = u8x32::from_slice(&bytes[at..]);
-    let stops = lanes.simd_eq(u8x32::splat(0x22)) | lanes.simd_ge(u8x32::splat(0x80));
+    let lanes = Simd::<u8, N>::from_slice(&bytes[at..]);
+    let stops = lanes.simd_eq(Simd::<u8, N>::splat(0x22))
+        | lanes.simd_ge(Simd::<u8, N>::splat(0x80));
     stops.to_bitmask()
 }

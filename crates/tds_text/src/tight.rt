@@ -7,10 +7,10 @@ ghost use Rattle.tds_text.specs.Plain.{ArePlain, LiesIn};
 ghost use Rattle.tds_text.specs.Utf16 as utf16;
 
 use crate::beyond_ascii::put_units;
-use crate::encode::{put_lanes, take_plain};
+use crate::encode::{put_plain, take_plain};
 use crate::fields::{Content, close_quoted};
 use crate::framing::QUOTE;
-use crate::lanes::{LANES, WIDE, wide_stops};
+use crate::lanes::{BLOCK, LANES, WIDE};
 use crate::lanes_utf16::{MANY_UNITS, UNITS, units_of, wide_units};
 use crate::utf16::{convert_plain, convert_whole, convert_within};
 use crate::{utf8, windows_1252};
@@ -64,38 +64,22 @@ fn write_utf16(source: &[u8], n: usize, to: &mut [u8]) -> Option<usize>
     Some(close_quoted(to, 1 + made))
 }
 
-// Writes bytes as they are, 32 at a time, as long as all of them are of ASCII and none is a quote. Returns how many.
-#[inline(always)]
-fn put_wide(bytes: &[u8], to: &mut [u8]) -> usize
-    requires { length bytes.now ≤ length to.old }
-    ensures within { result ≤ length bytes.now }
-    ensures plain { ArePlain (take result bytes.now) }
-    ensures text { take result to.new ≡ take result bytes.now }
-{
-    let mut at = 0;
-    while bytes.len() - at >= WIDE && wide_stops(bytes, at) == 0 {
-        let lanes = u8x32::from_slice(&bytes[at..]);
-        put_lanes(to, at, lanes, WIDE);
-        at += WIDE;
-    }
-    at
-}
-
 // Writes bytes as they are, and returns whether it did: if all of them are of ASCII and none is a quote. What follows them in the
 // source may be looked at.
 #[inline(always)]
-fn put_plain(bytes: &[u8], source: &[u8], to: &mut [u8]) -> bool
+fn put_all_plain(bytes: &[u8], source: &[u8], to: &mut [u8]) -> bool
     requires source { LiesIn bytes.now source.now }
     requires room { length bytes.now + LANES ≤ length to.old }
     ensures plain { result ≡ true → ArePlain bytes.now }
     ensures text { result ≡ true → take (length bytes.now) to.new ≡ bytes.now }
 {
-    let mut at = put_wide(bytes, to);
+    let many = put_plain::<BLOCK>(bytes, 0, to);
+    let mut at = put_plain::<WIDE>(bytes, many, to);
     while at < bytes.len() {
         if source.len() - at < LANES {
             return false;
         }
-        let n = take_plain(bytes, source, at, to, at);
+        let n = take_plain::<LANES>(bytes, source, at, to, at);
         at += n;
         if n < LANES && at < bytes.len() {
             return false;
@@ -115,7 +99,7 @@ fn write_windows_1252(source: &[u8], n: usize, to: &mut [u8]) -> Option<usize>
         return None;
     }
     to[0] = QUOTE;
-    if put_plain(&source[..n], source, &mut to[1..]) {
+    if put_all_plain(&source[..n], source, &mut to[1..]) {
         return Some(close_quoted(to, 1 + n));
     }
     let made = windows_1252::convert_within(&source[..n], source, &mut to[1..])?;
@@ -133,7 +117,7 @@ fn write_utf8(source: &[u8], n: usize, to: &mut [u8]) -> Option<usize>
         return None;
     }
     to[0] = QUOTE;
-    if put_plain(&source[..n], source, &mut to[1..]) {
+    if put_all_plain(&source[..n], source, &mut to[1..]) {
         return Some(close_quoted(to, 1 + n));
     }
     let made = utf8::convert_within(&source[..n], &mut to[1..])?;

@@ -157,7 +157,7 @@ pub(crate) fn convert_front(bytes: &[u8], source: &[u8], to: &mut [u8]) -> Span
             made = run.made;
             continue;
         }
-        let n = take_plain(bytes, source, at, to, made);
+        let n = take_plain::<LANES>(bytes, source, at, to, made);
         at += n;
         made += n;
         if n == LANES || at == bytes.len() || bytes[at] >= 0x80 {

@@ -4,8 +4,8 @@ ghost use Rattle.std.specs.Int.{to_le_bytes, w32};
 ghost use Rattle.tds_text.specs.Plain.{LiesIn};
 ghost use Rattle.tds_text.specs.Windows1252 as windows_1252;
 
-use crate::encode::{put_doubled, take_before, take_plain};
-use crate::lanes::{BY_HAND, LANES, MANY, PART, WIDE, wide_stops};
+use crate::encode::{put_doubled, put_plain, take_before, take_plain};
+use crate::lanes::{BLOCK, BY_HAND, LANES, MANY, PART, WIDE, plain_stops};
 use tds_values::Span;
 
 // The characters of the bytes 80 to FF in UTF-8, the first byte the lowest, with their number in the highest.
@@ -82,7 +82,7 @@ fn take_wide(bytes: &[u8], at: usize, to: &mut [u8], made: usize) -> usize
     ensures taken { let run = take result (drop at bytes.now) in
         take (made + result) to.new ≡ take made to.old ++ windows_1252.text run }
 {
-    take_before(bytes, at, wide_stops(bytes, at), to, made)
+    take_before(bytes, at, plain_stops::<WIDE>(bytes, at), to, made)
 }
 
 // Goes on with the text of the bytes up to a place, a byte at a time, and returns how long it is then.
@@ -105,7 +105,8 @@ fn convert_by_hand(bytes: &[u8], from: usize, end: usize, to: &mut [u8], start: 
     made
 }
 
-// Writes the text of the bytes, as long as 32 of them are left and there are 64 bytes of room.
+// Writes the text of the bytes, as long as 32 of them are left and there are 64 bytes of room. The first ones are looked at 64 at a
+// time, as long as all of them are their own text.
 #[inline(never)]
 pub(crate) fn convert_wide(bytes: &[u8], to: &mut [u8]) -> Span
     ensures within { result.used ≤ length bytes.now }
@@ -113,11 +114,11 @@ pub(crate) fn convert_wide(bytes: &[u8], to: &mut [u8]) -> Span
     ensures some { WIDE ≤ length bytes.now → PART ≤ length to.old → 0 < result.used }
     ensures text { windows_1252.Converts bytes.now to.new result.used result.made }
 {
-    let mut at = 0;
-    let mut made = 0;
     if bytes.len() < WIDE || to.len() < PART {
-        return Span { used: at, made };
+        return Span { used: 0, made: 0 };
     }
+    let mut at = put_plain::<BLOCK>(bytes, 0, to);
+    let mut made = at;
     let last = bytes.len() - WIDE;
     let limit = to.len() - PART;
     while at <= last && made <= limit {
@@ -165,7 +166,7 @@ fn convert_rest(bytes: &[u8], source: &[u8], after: Span, to: &mut [u8]) -> usiz
     let mut made = after.made;
     let end = bytes.len().min((source.len() + 1).saturating_sub(LANES));
     while at < end {
-        let n = take_plain(bytes, source, at, to, made);
+        let n = take_plain::<LANES>(bytes, source, at, to, made);
         at += n;
         made += n;
         if n == LANES || at == bytes.len() {
@@ -177,6 +178,43 @@ fn convert_rest(bytes: &[u8], source: &[u8], after: Span, to: &mut [u8]) -> usiz
     convert_by_hand(bytes, at, bytes.len(), to, made)
 }
 
+// Writes the text of the first bytes, at most `N`: of those before the first that isn't its own text, and of that one. What follows the
+// bytes in the source may be looked at.
+#[inline(always)]
+fn convert_lanes<const N: usize>(bytes: &[u8], source: &[u8], to: &mut [u8]) -> Span
+    requires few { N ≤ BLOCK }
+    requires source { LiesIn bytes.now source.now }
+    requires room { (3 * length bytes.now + LANES ≤ length to.old) × (N ≤ length to.old) }
+    ensures within { result.used ≤ length bytes.now }
+    ensures short { result.made ≤ 3 * result.used }
+    ensures text { windows_1252.Converts bytes.now to.new result.used result.made }
+{
+    if source.len() < N {
+        return Span { used: 0, made: 0 };
+    }
+    let n = take_plain::<N>(bytes, source, 0, to, 0);
+    if n == N || n == bytes.len() {
+        return Span { used: n, made: n };
+    }
+    let made = put_text(to, n, bytes[n]);
+    Span { used: n + 1, made }
+}
+
+// Writes the text of the first bytes, looking at 16 together or at 32, as many as there may be.
+#[inline(always)]
+fn convert_first(bytes: &[u8], source: &[u8], to: &mut [u8]) -> Span
+    requires source { LiesIn bytes.now source.now }
+    requires room { 3 * length bytes.now + LANES ≤ length to.old }
+    ensures within { result.used ≤ length bytes.now }
+    ensures short { result.made ≤ 3 * result.used }
+    ensures text { windows_1252.Converts bytes.now to.new result.used result.made }
+{
+    if bytes.len() <= LANES {
+        return convert_lanes::<LANES>(bytes, source, to);
+    }
+    convert_lanes::<WIDE>(bytes, source, to)
+}
+
 // Writes the text of bytes as `convert` does, in the way that is best for fewer than 64: it makes no call.
 #[inline(always)]
 pub(crate) fn convert_few(bytes: &[u8], source: &[u8], to: &mut [u8]) -> usize
@@ -185,8 +223,11 @@ pub(crate) fn convert_few(bytes: &[u8], source: &[u8], to: &mut [u8]) -> usize
     ensures short { result ≤ 3 * length bytes.now }
     ensures text { take result to.new ≡ windows_1252.text bytes.now }
 {
-    let nothing = Span { used: 0, made: 0 };
-    convert_rest(bytes, source, nothing, to)
+    let first = convert_first(bytes, source, to);
+    if first.used == bytes.len() {
+        return first.made;
+    }
+    convert_rest(bytes, source, first, to)
 }
 
 // Writes the text of bytes, and returns its length. What follows them in the source may be looked at.

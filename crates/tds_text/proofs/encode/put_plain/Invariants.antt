@@ -1,15 +1,16 @@
 use Rattle.tds_text.proofs as N
 use N.{◌≡◌, ◌-◌, ◌≤◌, length, take}
-use N.tight.put_wide.Given as goal
+use N.encode.put_plain.Given as goal
 
 -- the bytes so far are plain, and were written
 abbrev pub invariant-loop-at : goal.invariant-loop-at
-invariant-loop-at l = record {
-  within : l.at ≤ length l.bytes;
-  long : length l.bytes ≤ length l.to;
+invariant-loop-at g l = record {
+  within : l.at ≤ l.end;
+  few : l.end ≤ length l.bytes;
+  fits : l.end ≤ length l.to;
   plain : N.ArePlain (take l.at l.bytes);
   text : take l.at l.to ≡ take l.at l.bytes;
 }
 
 abbrev pub decreases-loop-at : goal.decreases-loop-at
-decreases-loop-at l = length l.bytes - l.at
+decreases-loop-at g l = length l.bytes - l.at

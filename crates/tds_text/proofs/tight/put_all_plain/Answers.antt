@@ -1,5 +1,5 @@
 use Rattle.tds_text.proofs as N
-use N.tight.put_plain.Goals as goal
+use N.tight.put_all_plain.Goals as goal
 use N.{◌∙◌}
 
 pub loop-at-preserved : goal.loop-at-preserved

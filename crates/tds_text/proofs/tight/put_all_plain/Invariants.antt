@@ -1,6 +1,6 @@
 use Rattle.tds_text.proofs as N
 use N.{◌≡◌, ◌+◌, ◌-◌, ◌≤◌, length, take}
-use N.tight.put_plain.Given as goal
+use N.tight.put_all_plain.Given as goal
 
 -- the bytes so far are plain, and were written
 abbrev pub invariant-loop-at : goal.invariant-loop-at

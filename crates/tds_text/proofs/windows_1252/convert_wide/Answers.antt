@@ -28,3 +28,12 @@ loop-at-preserved-then-n-gt0 c =
       text = one_taken windows_1252.text N.SingleLaws.windows_1252-append c.args.bytes.now _ (search N.arith) c.put_text-made.ensures.written
           (text_taken windows_1252.text N.SingleLaws.windows_1252-append _ _ _ c.take_wide-n.ensures.taken c.loop-at.invariant.text);
     }
+
+pub loop-at-init : goal.loop-at-init
+loop-at-init c =
+    record {
+      within = omega N.arith;
+      fits = omega N.arith;
+      room = omega N.arith;
+      text = rw (N.Singles.plain_text _ c.put_plain-at.ensures.plain) c.put_plain-at.ensures.text;
+    }
