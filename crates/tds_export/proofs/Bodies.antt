@@ -18,12 +18,12 @@ module _ {s t : N.ReturnPart} {a b c : PayloadView} {place middle : ℕ} (x : Re
 
   -- and so it is where nothing stops
   pub return_reads_after : {u : N.ReturnPart} {place' : ℕ} → ReadsReturn t u b c middle place' → ReadsReturn s u a c place place'
-  return_reads_after {u} y = record { reads = grind (arith, N.reads_both); place_is = grind (arith, N.length-append) }
+  return_reads_after y = record { reads = grind (arith, N.reads_both); place_is = grind (arith, N.length-append) }
 
 -- the next element was read
 return_read : {s t : N.ReturnPart} {a b : PayloadView} {place place' n : ℕ} (element : List ℕ) → 0 < n → N.return_size s ≡ n → N.return_fault s element ≡ N.None
     → N.return_add s element ≡ t → length element ≡ n → Takes a b element n → place' ≡ place + n → ReadsReturn s t a b place place'
-return_read {s} {t} {a} {b} element some size free to whole takes at = record { reads = grind (arith, N.reads_one); place_is = rw whole at }
+return_read element some size free to whole takes at = record { reads = grind (arith, N.reads_one); place_is = rw whole at }
 
 -- ---- the name
 
@@ -37,7 +37,7 @@ module _ {a : PayloadView} (b : PayloadView) {place one : ℕ} (ordinal : List �
     -- the ordinal and the count of the name's units were read
     pub front_read : {c : PayloadView} {two : ℕ} (element : List ℕ) → length element ≡ 1 → Takes b c element (length element) → two ≡ one + length element
         → ReadsReturn N.ReturnOrdinal (N.with_return_units (N.slice_index element 0)) a c place two
-    front_read element single second at' = return_reads_after ordinal_read (return_read _ (omega arith) (N.sym single) refl refl refl second at')
+    front_read _ single second at' = return_reads_after ordinal_read (return_read _ (omega arith) (N.sym single) refl refl refl second at')
 
 -- the name is cut
 pub name_cut : (units : ℕ) {n place : ℕ} {a b : PayloadView} {own stop : Stop} {part : List ℕ} → n ≡ 2 * units → length part < n → Ends a b part own
@@ -49,7 +49,7 @@ name_cut units {n} is fewer ends stop_is =
 -- the name was read
 pub name_read : (units : ℕ) {n place place' : ℕ} {a b : PayloadView} {name : List ℕ} → n ≡ 2 * units → length name ≡ n → Takes a b name n
     → place' ≡ place + n → ReadsReturn (N.with_return_units units) (N.ReturnHead name) a b place place'
-name_read units {name} is len takes at = record {
+name_read _ {name} is len takes at = record {
   reads = record { bytes = name; spelt = N.ResponseLaws.return_name_is_read _ _ (cc); takes = rw len takes };
   place_is = rw len at;
 }
@@ -61,7 +61,7 @@ abbrev after_name : List ℕ → N.TypePart → N.ReturnPart
 after_name name N.TypeHead = N.ReturnHead name
 after_name name (N.TypeRest byte) = N.ReturnInfo name byte
 after_name name (N.KnownType kind) = N.before_value name kind
-after_name name N.NoType = N.ReturnOrdinal
+after_name _ N.NoType = N.ReturnOrdinal
 
 -- a type byte that was read leads to the same
 byte_read : (name : List ℕ) (byte : ℕ) (z : N.Bool) → (if z then N.with_return_kind name (N.kind_of (byte ∷ [])) else N.ReturnInfo name byte) ≡ after_name name
@@ -70,7 +70,7 @@ byte_read = grind arith
 
 -- a type is read in its return value as by itself
 type_agrees : {name : List ℕ} (p : N.TypePart) → 0 < N.returned_type.size p → Agrees N.returned_type N.Words.return_value (after_name name) p
-type_agrees p h = grind (arith, byte_read)
+type_agrees = grind (arith, byte_read)
 
 -- whatever the answer is
 pub type_taken : (r : N.Result N.Kind Stop) (name head : List ℕ) (a b c : PayloadView) (place : ℕ) {middle : ℕ} (place' : ℕ) → length head ≡ 8
@@ -79,11 +79,11 @@ pub type_taken : (r : N.Result N.Kind Stop) (name head : List ℕ) (a b c : Payl
     → N.MatchResult r (λ kind. N.Reads N.returned_type N.TypeHead a c (N.KnownType kind)) (λ stop. N.StopsType a c (middle - 8) stop)
     → N.MatchResult r (λ kind. ReadsReturn (N.ReturnHead name) (N.before_value name kind) a c place place')
     (λ stop. N.StopsReturn (N.ReturnHead name) a c place stop)
-type_taken (Ok kind) name head a b c place place' eight takes at x y =
+type_taken (Ok kind) _ _ a b c _ _ eight takes at x y =
     let known = N.rest_length_of _ _ _ x.info in
     return_reads_after (return_read _ (omega arith) refl (rw known refl) (rw known refl) eight takes at)
     (record { reads = record { bytes = x.rest; spelt = info_is_read _ _ _ known x.info; takes = x.takes }; place_is = x.place_is })
-type_taken (Err stop) name head a b c place place' eight takes at x y =
+type_taken (Err stop) name _ a b c _ _ eight takes at x y =
     let z = N.subst (λ n. N.StopsType a c n stop) (omega arith) y in
     record { at = after_name name z.at; stops = stop_inside (type_agrees) z.stops }
 
@@ -95,12 +95,12 @@ pub value_passed : {U : Type 0} (r : N.Result U Stop) (name : List ℕ) (kind : 
     → N.MatchResult r (λ _. N.PassesCell (N.cell_start kind (N.shape N.return_charset kind)) b c middle place')
     (λ stop. N.StopsPassing (N.cell_start kind (N.shape N.return_charset kind)) b c middle stop)
     → N.MatchResult r (λ _. N.ReadsValue a c place place') (λ stop. N.StopsReturn N.ReturnOrdinal a c place stop)
-value_passed (Ok u) name kind {b} c place' x y =
+value_passed (Ok u) name kind c _ x y =
     record {
       value = record { name = name; kind = kind; value = y.value };
       steps = return_reads_after x (record { reads = read_inside (value_agrees _ _) y.steps.reads; place_is = y.steps.place_is });
     }
-value_passed (Err stop) name kind {b} c place' x y =
+value_passed (Err stop) name kind c _ x y =
     return_stops_after x (record { at = N.with_value name kind y.at; stops = stop_inside (value_agrees _ _) y.stops })
 
 -- ---- tokens with a Length and a body, as they are read
@@ -121,7 +121,7 @@ module _ (charset : N.Charset) (room : ℕ) {n place middle : ℕ} {tokens : Lis
   -- what stops the reading of the body
   after_length : {stop : Stop} → 0 < n → N.StopsReading (response charset room) (in_body which tokens n) b c middle (in_body which tokens n) stop
       → N.StopsReading (response charset room) (in_length which tokens) a c place (in_body which tokens n) stop
-  after_length {stop} some stops =
+  after_length some stops =
       let to : (response charset room).add (in_length which tokens) element ≡ in_body which tokens n = grind (arith, N.choose_false, N.ne_eqb) in
       N.stops_after _ _ _ a b c _ _ _ (N.reads_one _ _ a b _ _ (grind arith)
       l.takes to) (rw l.at at stops)
@@ -146,8 +146,11 @@ module _ (charset : N.Charset) (room : ℕ) {tokens : List Token} {which : Bodie
     -- the Length is too short
     pub length_refused : n < 14 → N.IsBetween b → N.StopsInNotice charset room tokens which a b place (record { fault = N.BadNotice; place = N.Payload place })
     length_refused short between =
-        let first : N.part_fault room tokens (N.TokenLength which) element ≡ Some N.BadNotice = grind (arith, N.test_lt) in
-        record { at = in_length which tokens; stops = N.refused_at_once _ _ a b _ _ _ (omega arith) l.two first l.takes between; in_body = N.inl refl }
+        record {
+          at = in_length which tokens;
+          stops = N.refused_at_once _ _ a b _ _ _ (omega arith) l.two (grind (arith, N.test_lt)) l.takes between;
+          in_body = N.inl refl;
+        }
 
     -- the body was read
     pub body_passed : {c : PayloadView} → 14 ≤ n → (body : List ℕ) {place' : ℕ} → length body ≡ n → Takes b c body n → place' ≡ middle + n
@@ -167,10 +170,9 @@ module _ (charset : N.Charset) (room : ℕ) {tokens : List Token} {which : Bodie
         pub body_refused : N.holds_notice t.element ≡ N.false
             → N.StopsInNotice charset room tokens which a c place (record { fault = N.BadNotice; place = N.Payload middle })
         body_refused passes =
-            let first : N.part_fault room tokens (N.TokenBody which n) t.element ≡ Some N.BadNotice = grind arith in
             record {
               at = in_body which tokens n;
-              stops = after_length _ _ l (λ e. long) (omega arith) (N.refused_into t (omega arith) refl first);
+              stops = after_length _ _ l (λ e. long) (omega arith) (N.refused_into t (omega arith) refl (grind arith));
               in_body = N.inr (n, refl);
             }
 
@@ -203,7 +205,7 @@ module _ (charset : N.Charset) {tokens : List Token} {s : N.Progress} {u : N.Vie
         → after ≡ N.appended cleared (N.whole_within (cleared.room - length cleared.bytes) (N.characters (N.notice_of body).message))
         → N.ReadsNext charset (in_length N.AnError tokens) tokens u (record u { seen = b; place = place; notice = after })
         (record s { report = record s.report { errors = s.report.errors + 1; first_error = Some (N.server_error (N.notice_of body)) } })
-    first_error_reads cleared {after} none no_bytes room_is put =
+    first_error_reads cleared none no_bytes room_is put =
         let first = N.TokenLaws.first_next tokens (N.notice_of body) (grind (arith, N.TokenLaws.no_errors)) in
         (error_reads (cc), cc)
 
@@ -227,7 +229,7 @@ module _ (charset : N.Charset) {tokens : List Token} {s : N.Progress} {u : N.Vie
     -- a body of which nothing is kept was read
     pub quiet_reads : {place : ℕ} (body : List ℕ) → length body ≡ n → Takes b c body n → place ≡ middle + n
         → ReadsQuiet charset (in_length which tokens) tokens u c place s
-    quiet_reads body len takes at =
+    quiet_reads _ len takes at =
         quietly begun refl (bare_reads begun _ (body_reads _ _ l (grind arith) _ len takes (grind arith)) (grind (arith, N.length-append)) refl
         (N.TokenLaws.bare_body _ _)
         (N.TokenLaws.tracks_body begun.tracks _ _ quiet))

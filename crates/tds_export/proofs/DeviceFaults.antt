@@ -13,7 +13,7 @@ if_payload : (b : N.Bool) (x y : Option Fault) → AtMostOfPayload x → AtMostO
 if_payload = grind arith
 
 part_payload : (room : ℕ) (tokens : List N.Token) (at : N.Open) (e : List ℕ) → AtMostOfPayload (N.part_fault room tokens at e)
-part_payload room tokens at e = grind (arith, if_payload)
+part_payload _ _ at e = grind (arith, if_payload)
 
 -- ---- a payload that has just begun
 
@@ -27,13 +27,13 @@ of_none = grind arith
 
 ends_blame : (size limit : ℕ) {failures : ℕ} (left : Option (List ℕ)) (b : N.PayloadView) {bytes : List ℕ} {own : Stop}
     → N.Ends (N.begun size limit left failures) b bytes own → ReadingFault failures b.failures own.fault
-ends_blame size limit left b (inl x) = of_none _ _ _ (rw (← ap (λ (c : Coming). c.stop.fault) (x.2 [])) (N.message_of_wire _ _ _ 0 0 _))
-ends_blame size limit left b (inr (inl x)) = of_none _ _ _ (grind (arith, N.message_of_wire))
-ends_blame size limit left b (inr (inr x)) = (λ e. (cc), λ e. x.4.0)
+ends_blame _ _ _ b (inl x) = of_none _ _ _ (rw (← ap (λ (c : Coming). c.stop.fault) (x.2 [])) (N.message_of_wire _ _ _ 0 0 _))
+ends_blame _ _ _ b (inr (inl x)) = of_none _ _ _ (grind (arith, N.message_of_wire))
+ends_blame _ _ _ b (inr (inr x)) = (λ e. (cc), λ e. x.4.0)
 
 reading_fault : (charset : N.Charset) (room size limit : ℕ) {failures : ℕ} {left : Option (List ℕ)} {b : N.PayloadView} {place : ℕ} (at : N.Part) (stop : Stop)
     → N.StopsReading (N.response charset room) N.response_start (N.begun size limit left failures) b place at stop → ReadingFault failures b.failures stop.fault
-reading_fault charset room size limit {b} at stop x = elim x.cause [
+reading_fault _ _ _ _ {b} at _ x = elim x.cause [
   | inl y ↦ of_none _ _ _ (grind (arith, part_payload))
   | inr y ↦ elim y.stop_is [
     | inl z ↦ of_none _ _ _ (grind arith)
@@ -74,13 +74,13 @@ no_message = grind arith
 -- to read a whole message takes a byte
 some_read : (size limit : ℕ) {failures : ℕ} (left : Option (List ℕ)) (q : N.PayloadView) (bytes : List ℕ) {n : ℕ}
     (t : N.Takes (N.begun size limit left failures) q bytes n) → N.IsOver q → 0 < N.length t.0
-some_read size limit left q bytes t o = go t.0 t.1.1
+some_read size limit _ q bytes t o = go t.0 t.1.1
   where
     go : (read : List ℕ) → ((zs : List ℕ) → N.whole_message size limit (read ++ zs) ≡ before bytes (q.future zs)) → 0 < N.length read
     go [] f = absurd (no_message _ _ (cc (o.2 [])) (f []))
     go _ f = omega arith
 
 pub no_failure : (given : N.ExportInput) (report : N.Report) → N.Reports given report → (N.FailsToRead given → ⊥) × (N.FailsToWrite given → ⊥)
-no_failure given report x =
+no_failure given _ x =
     let moved = some_read (N.limits_of given).packet_size (N.limits_of given).max_wire _ x.seen _ x.completes.whole.takes x.completes.whole.over in
     grind arith

@@ -89,9 +89,4 @@ pub name_written : {begun : N.Bool} {columns left rest : List Column} {c : Colum
     → NamesWritten begun columns rest (index + 1) (made + m) room (take made to ++ (new ++ more))
 name_written new more is x number within same text =
     let names = one_more is x.names number in
-    record {
-      names = names.0;
-      same = same ∙ x.same;
-      within = grind (arith, N.length-append, N.length-take-le);
-      text = grind (arith, made_more, N.append_assoc);
-    }
+    record { names = names.0; same = same ∙ x.same; within = grind (arith, N.length-append, N.length-take-le); text = grind (arith, made_more, N.append_assoc) }

@@ -29,35 +29,35 @@ fresh_text = grind arith
 
 -- what has just begun leaves the text
 same_grows : (tokens : List Token) (at : Open) → IsFresh at → Grows (text tokens ++ []) (text_so_far (part_at tokens at))
-same_grows tokens at h = rw (fresh_text at h) (grows_same _)
+same_grows _ at h = rw (fresh_text at h) (grows_same _)
 
 -- a row in its response
 with_row_grows : (tokens : List Token) (part : N.RowPart) → Grows (text tokens ++ N.row_so_far part) (text_so_far (N.with_row tokens part))
-with_row_grows = grind (arith, N.append-nil, grows_same, N.TokenLaws.text_after-snoc)
+with_row_grows = grind (arith, grows_same, N.TokenLaws.texts)
 
 -- a row that begins
 start_grows : (tokens : List Token) (start : List N.Column → N.RowPart) (current : N.Option (List N.Column))
     → Grows (text tokens ++ []) (text_so_far (N.start_of_row tokens start current))
-start_grows tokens start None = grows_same _
+start_grows _ _ None = grows_same _
 start_grows tokens start (N.Some columns) = N.grows_trans _ _ _ (N.grows_under (text tokens) [] _ (N.grows_all _)) (with_row_grows tokens (start columns))
 
 -- a description in its response
 with_described_grows : (tokens : List Token) (d : N.DescriptionPart) → Grows (text tokens ++ []) (text_so_far (N.with_described tokens d))
 with_described_grows tokens N.NoDescription = token_grows tokens N.NoMetadata
 with_described_grows tokens (N.WholeDescription bytes columns) = token_grows tokens _
-with_described_grows tokens d = grows_same _
+with_described_grows _ d = grows_same _
 
 -- a return value in its response
 with_return_grows : (tokens : List Token) (part : N.ReturnPart) → Grows (text tokens ++ []) (text_so_far (N.with_return tokens part))
 with_return_grows tokens (N.WholeReturn r) = token_grows tokens (N.Returned r)
-with_return_grows tokens part = grows_same _
+with_return_grows _ _ = grows_same _
 
 -- ---- the span
 
 module _ (room : ℕ) where
   -- each element of a description adds to its span
   description_span : {d : N.DescriptionPart} {e : List ℕ} → IsNext (N.description room) d e → N.span d ≤ N.span (N.add_described d e)
-  description_span n = grind (arith, N.choose, N.is_some_value, N.known_type, N.length-append, N.some_kind, N.bare_type, N.eq_true)
+  description_span = grind (arith, N.choose, N.is_some_value, N.known_type, N.length-append, N.some_kind, N.bare_type, N.eq_true)
 
 module _ (charset : N.Charset) (room : ℕ) where
   -- each element adds to the text, by where it is read
@@ -68,7 +68,7 @@ module _ (charset : N.Charset) (room : ℕ) where
   part_grows tokens (N.InRow part) e n = N.grows_trans _ _ _ (grind (arith, N.grows_under, N.row_grows)) (with_row_grows tokens _)
   part_grows tokens (N.TokenLength b) e n = N.choose (λ p. Grows (text tokens ++ []) (text_so_far p)) (N.little e == 0) _ _
       (grind (arith, token_grows)) (grind (arith, grows_same))
-  part_grows tokens at e n = grind (arith, with_described_grows, with_return_grows, token_grows)
+  part_grows _ at e n = grind (arith, with_described_grows, with_return_grows, token_grows)
 
   -- all elements between two states add to the text
   pub text_along : {p q : Part} {bytes : List ℕ} → N.Spelt (N.response charset room) p bytes q → (more : List ℕ) × (text_so_far p ++ more ≡ text_so_far q)
@@ -78,5 +78,5 @@ module _ (charset : N.Charset) (room : ℕ) where
 
   -- and to the span
   pub span_along : (p q : Part) (bytes : List ℕ) → N.Spelt (N.response charset room) p bytes q → N.span_so_far p ≤ N.span_so_far q
-  span_along p q bytes s = N.Spelt-induct _ (λ r b. N.span_so_far p ≤ N.span_so_far r)
+  span_along p q _ s = N.Spelt-induct _ (λ r b. N.span_so_far p ≤ N.span_so_far r)
       (grind (arith, N.choose, description_span, lead_cases, N.TokenLaws.greatest_span-append)) p (omega arith) _ q s

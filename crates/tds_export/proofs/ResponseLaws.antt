@@ -34,7 +34,7 @@ parts_within = grind arith
 
 -- a number of 32 bits as one with a sign
 pub signed_is : (n : ℕ) → N.cast_signed w32 n ≡ N.signed n
-signed_is n = grind arith
+signed_is = grind arith
 
 -- an error as its body has it
 pub error_is : (body : List ℕ) {number line : N.ℤ} (at : ℕ) → 14 ≤ length body → at ≡ line_at body → line_at body + 4 ≤ length body
@@ -45,7 +45,7 @@ error_is = grind arith
 
 -- what stands after the first n bytes begins with k known ones
 piece : (body : List ℕ) (n k : ℕ) (a b : List ℕ) → drop n body ≡ a ++ b → length a ≡ k → (take k (drop n body) ≡ a) × (drop (n + k) body ≡ b)
-piece body n k a b e l = (rw (e, ← l) (N.take-append_seam a b), sym (N.drop-drop k n _) ∙ rw (e, ← l) (N.drop-append_seam a b))
+piece _ n k a b e l = (rw (e, ← l) (N.take-append_seam a b), sym (N.drop-drop k n _) ∙ rw (e, ← l) (N.drop-append_seam a b))
 
 -- the first byte of what stands there
 byte_of : (body : List ℕ) (n x : ℕ) (b : List ℕ) → drop n body ≡ x ∷ b → N.slice_index body n ≡ x
@@ -56,7 +56,7 @@ same_notice : {a b c : ℕ} {d : List ℕ} {e : ℕ} {n : Notice} → a ≡ n.nu
 same_notice = grind arith
 
 -- the body of a notice is read as it
-pub notice_is_read : {n : Notice} {body : List ℕ} → N.SpellsNotice n body → (14 ≤ length body) × (N.holds_notice body ≡ true) × (N.notice_of body ≡ n)
+notice_is_read : {n : Notice} {body : List ℕ} → N.SpellsNotice n body → (14 ≤ length body) × (N.holds_notice body ≡ true) × (N.notice_of body ≡ n)
 notice_is_read {n} {body} h =
     let u = little h.units in
     let s = length h.server / 2 in
@@ -109,8 +109,8 @@ pub value_agrees : (name : List ℕ) (kind : Kind) (p : N.CellPart) → 0 < (N.c
 value_agrees = grind arith
 
 pub return_name_is_read : (units : ℕ) (name : List ℕ) → length name ≡ 2 * units → Spelt return_value (N.with_return_units units) name (N.ReturnHead name)
-return_name_is_read units [] l = grind arith
-return_name_is_read units (x ∷ xs) l = grind (arith, Spelt-step, N.choose_false, N.ne_eqb)
+return_name_is_read _ [] l = grind arith
+return_name_is_read _ (x ∷ xs) l = grind (arith, Spelt-step, N.choose_false, N.ne_eqb)
 
 front_is_read : {name front : List ℕ} → N.SpellsReturnName name front → Spelt return_value N.ReturnOrdinal front (N.ReturnHead name)
 front_is_read h =
@@ -123,11 +123,11 @@ head_is_read = grind (arith, Spelt-step, N.get_or-append_seam, N.length-append)
 
 pub info_is_read : (name : List ℕ) (byte : ℕ) (rest : List ℕ) {kind : Kind} → N.rest_length byte ≡ Some (length rest)
     → N.kind_of (byte ∷ rest) ≡ Some kind → Spelt return_value (N.with_return_type name byte (length rest)) rest (N.with_return_kind name (Some kind))
-info_is_read name byte [] n k = grind arith
-info_is_read name byte (x ∷ xs) n k = grind (arith, Spelt-step, N.choose_false, N.ne_eqb)
+info_is_read _ _ [] n k = grind arith
+info_is_read _ _ (x ∷ xs) n k = grind (arith, Spelt-step, N.choose_false, N.ne_eqb)
 
 -- What spells a return value is read as it.
-pub return_is_read : {r : N.ReturnValue} {bytes : List ℕ} → N.SpellsReturnValue r bytes → Spelt return_value N.ReturnOrdinal bytes (N.WholeReturn r)
+return_is_read : {r : N.ReturnValue} {bytes : List ℕ} → N.SpellsReturnValue r bytes → Spelt return_value N.ReturnOrdinal bytes (N.WholeReturn r)
 return_is_read {r} h =
     let info = N.byte_and_rest _ _ h.type in
     rw h.spelt (spelt_both (front_is_read h.named) (spelt_both (rw (append_assoc h.ignored (info.byte ∷ []) info.rest
@@ -159,7 +159,7 @@ ReturnMeans (N.InReturnCell name kind part) b = ValueMeans name kind part b
 ReturnMeans (N.WholeReturn r) b = N.SpellsReturnValue r b
 
 with_value_means : {name : List ℕ} {kind : Kind} {part : N.CellPart} {b : List ℕ} → ValueMeans name kind part b → ReturnMeans (N.with_value name kind part) b
-with_value_means h = grind arith
+with_value_means = grind arith
 
 value_begins : {name : List ℕ} {o : Option Kind} {kind : Kind} {b front : List ℕ} (ignored info : List ℕ) → o ≡ Some kind → b ≡ front ++ (ignored ++ info)
     → N.SpellsReturnName name front → length ignored ≡ 7 → N.IsTypeInfo kind info → ReturnMeans (N.with_return_kind name o) b
@@ -167,7 +167,7 @@ value_begins = grind (arith, N.append-nil, N.start_means, with_value_means)
 
 type_begins : (name : List ℕ) (byte n : ℕ) (b front ignored : List ℕ) → b ≡ front ++ (ignored ++ byte ∷ []) → N.SpellsReturnName name front
     → length ignored ≡ 7 → N.rest_length byte ≡ Some n → ReturnMeans (N.with_return_type name byte n) b
-type_begins name byte n b front ignored spelt named seven known = N.choose (λ p. ReturnMeans p b) _ _ _ (λ z.
+type_begins _ _ n b _ _ spelt named seven known = N.choose (λ p. ReturnMeans p b) _ _ _ (λ z.
     let k = N.bare_type _ (rw (N.eq_true n 0 z) at known) in
     value_begins _ _ k.1 spelt named seven k.1) (λ z. grind arith)
 
@@ -175,13 +175,12 @@ type_begins name byte n b front ignored spelt named seven known = N.choose (λ p
 pub return_step : (p : N.ReturnPart) (b e : List ℕ) → N.AreBytes e → ReturnMeans p b → N.IsNext return_value p e → ReturnMeans (N.return_add p e) (b ++ e)
 return_step N.ReturnOrdinal b e bytes h n = cc
 return_step N.ReturnNameCount b e bytes h n = grind (arith, N.choose, N.eq_true, N.one_byte)
-return_step (N.ReturnName m) b e bytes h n = grind (arith, append_assoc)
 return_step (N.ReturnHead name) b e bytes h n =
     let s = N.split_last 7 e n.whole in
     grind (arith, N.split_last, N.get_or-append_seam, type_begins)
 return_step (N.ReturnInfo name byte) b e bytes h n =
     let k = N.is_some_value _ (grind arith) in
-    value_begins _ _ k.1 (ap (λ v. v ++ e) h.2 ∙ append_assoc h.0 (h.1 ++ byte ∷ []) e ∙ ap (λ v. h.0 ++ v) (append_assoc h.1 (byte ∷ []) e)) h.3 h.4 k.1
+    value_begins h.1 (byte ∷ e) k.1 (grind (arith, append_assoc)) h.3 h.4 k.1
 return_step (N.InReturnCell name kind part) b e bytes h n =
     with_value_means (record {
       front = h.front;
@@ -194,7 +193,7 @@ return_step (N.InReturnCell name kind part) b e bytes h n =
       type = h.type;
       begun = grind (arith, N.cell_step);
     })
-return_step (N.WholeReturn r) b e bytes h n = grind arith
+return_step p b e bytes h n = grind (arith, append_assoc)
 
 -- ---- what a response's spelling is read as
 
@@ -250,7 +249,7 @@ module _ (charset : N.Charset) (room : ℕ) where
   pub body_is_read : {tokens : List Token} {b : Bodied} (element body : List ℕ) → length element ≡ 2 → little element ≡ length body
       → N.part_fault room tokens (N.TokenLength b) element ≡ None → IsFree b body
       → Leads (part_at tokens (N.TokenLength b)) (element ++ body) (with_token tokens (N.bodied b body))
-  body_is_read element [] two is f g = grind (arith, Spelt-step, N.append-nil)
+  body_is_read _ [] two is f g = grind (arith, Spelt-step, N.append-nil)
   body_is_read {tokens} {b} element (x ∷ xs) two is f g =
       let n = length (x ∷ xs) in
       let to : (response charset room).add (part_at tokens (N.TokenLength b)) element ≡ part_at tokens (N.TokenBody b n) =
@@ -263,42 +262,41 @@ module _ (charset : N.Charset) (room : ℕ) where
       → Leads (part_at tokens (N.TokenLength b)) bytes (with_token tokens (N.bodied b body))
   spelt_body {tokens} {b} {body} long holds h =
       let n = length body in
-      let two : little (n % 256 ∷ n / 256 ∷ []) ≡ n = omega arith in
-      rw h.0 (body_is_read (n % 256 ∷ n / 256 ∷ []) _ refl two (grind arith) (grind arith))
+      rw h.0 (body_is_read (n % 256 ∷ n / 256 ∷ []) _ refl (omega arith) (grind arith) (grind arith))
 
   -- so is a notice
   notice_token_is_read : {tokens : List Token} (b : Bodied) {n : Notice} {t : Token} {body rest bytes : List ℕ} → N.StartsToken (N.WithBody b) rest bytes
       → N.SpellsBody body rest → N.SpellsNotice n body → N.bodied b body ≡ t → Leads (after_tokens tokens) bytes (with_token tokens t)
-  notice_token_is_read {tokens} b {n} begins s h is =
+  notice_token_is_read b begins s h is =
       let r = notice_is_read h in
       lead_then (N.WithBody b) begins (grind arith) (grind (arith, spelt_body))
 
   -- a token with fields of a fixed length
   fixed_is_read : {tokens : List Token} (f : N.Fixed) {t : Token} {fields bytes : List ℕ} → N.StartsToken (N.WithFields f) fields bytes
       → length fields ≡ N.fields_length f → N.fixed f fields ≡ t → Leads (after_tokens tokens) bytes (with_token tokens t)
-  fixed_is_read {tokens} f begins long is = lead_then (N.WithFields f) begins (grind arith) (grind (arith, Spelt-step))
+  fixed_is_read f begins long is = lead_then (N.WithFields f) begins (grind arith) (grind (arith, Spelt-step))
 
   row_token_is_read : {tokens : List Token} (current : Option (List Column)) (cells : List N.Cell) {bytes : List ℕ}
       → described_after None tokens ≡ current → HasColumns current → N.SpellsRowToken charset current cells bytes
       → Leads (after_tokens tokens) bytes (with_token tokens (N.Row cells))
-  row_token_is_read None cells is some h = absurd h
-  row_token_is_read {tokens} (Some columns) cells {bytes} is some (rest, N.inl h) =
+  row_token_is_read None _ is some h = absurd h
+  row_token_is_read (Some columns) _ is some (rest, N.inl h) =
       lead_then N.ARow h.0 (cc) (rw is (spelt_inside (row_agrees _) (N.row_is_read _ _ _ _ h.1)))
-  row_token_is_read {tokens} (Some columns) cells {bytes} is some (rest, N.inr h) =
+  row_token_is_read (Some columns) cells is some (rest, N.inr h) =
       lead_then N.AnNbcRow h.0 (cc) (rw is (spelt_inside (row_agrees _) (N.nbc_row_is_read _ columns cells rest (omega arith) h.1)))
 
   -- what spells a token is read as it
   token_is_read : {tokens : List Token} (t : Token) {bytes : List ℕ} → HasColumns (described_after None tokens)
       → N.SpellsToken charset room (described_after None tokens) t bytes → Leads (after_tokens tokens) bytes (with_token tokens t)
-  token_is_read {tokens} (N.Metadata encoded columns) some h = lead_then N.AMetadata h.0 (grind arith)
+  token_is_read (N.Metadata encoded columns) some h = lead_then N.AMetadata h.0 (grind arith)
       (spelt_inside (description_agrees _) (N.description_is_read _ _ _ h.1))
-  token_is_read {tokens} N.NoMetadata some h = lead_then N.AMetadata h (grind arith) (grind (arith, Spelt-step))
+  token_is_read N.NoMetadata some h = lead_then N.AMetadata h (grind arith) (grind (arith, Spelt-step))
   token_is_read (N.Row cells) some h = row_token_is_read _ _ refl some h
-  token_is_read {tokens} (N.PassedOver passed body) some (rest, begins, s) = lead_then (N.WithBody (N.APassed passed)) begins (grind arith)
+  token_is_read (N.PassedOver passed body) some (rest, begins, s) = lead_then (N.WithBody (N.APassed passed)) begins (grind arith)
       (spelt_body (λ e. cc) (λ e. cc) s)
   token_is_read (N.Error n) some (rest, body, begins, s, h) = notice_token_is_read N.AnError begins s h (ap N.Error (notice_is_read h).2)
   token_is_read (N.Info n) some (rest, body, begins, s, h) = notice_token_is_read N.AnInfo begins s h (ap N.Info (notice_is_read h).2)
-  token_is_read {tokens} (N.Returned r) some (rest, begins, h) = lead_then N.AReturn begins (grind arith)
+  token_is_read (N.Returned r) some (rest, begins, h) = lead_then N.AReturn begins (grind arith)
       (spelt_inside (return_agrees _) (return_is_read h))
   token_is_read (N.Done m) some h = fixed_is_read N.ADone h.1 h.2 (grind arith)
   token_is_read (N.DoneInProc m) some h = fixed_is_read N.ADoneInProc h.1 h.2 (grind arith)
@@ -306,11 +304,11 @@ module _ (charset : N.Charset) (room : ℕ) where
 
   tokens_are_read : (before : List Token) (current : Option (List Column)) (ts : List Token) (bytes : List ℕ) → described_after None before ≡ current
       → HasColumns current → N.SpellsTokens charset room current ts bytes → Leads (after_tokens before) bytes (after_tokens (before ++ ts))
-  tokens_are_read before current [] bytes is some h = grind (arith, N.Spelt-none, N.append-nil)
-  tokens_are_read before current (t ∷ ts) bytes is some h =
+  tokens_are_read before _ [] _ is some h = grind (arith, N.Spelt-none, N.append-nil)
+  tokens_are_read before current (t ∷ ts) _ is some h =
       let one : Leads (after_tokens before) h.0 (with_token before t) = grind (arith, token_is_read) in
-      let now : described_after None (before ++ t ∷ []) ≡ described_after current (t ∷ []) = cc (described_after-append None before (t ∷ [])) in
-      let rest = tokens_are_read (before ++ t ∷ []) (described_after current (t ∷ [])) ts h.1 now (grind arith) h.4 in
+      let rest = tokens_are_read (before ++ t ∷ []) (described_after current (t ∷ [])) ts h.1
+      (cc (described_after-append None before (t ∷ []))) (grind arith) h.4 in
       grind (arith, token_is_read, N.Spelt-append, append_assoc)
 
   -- What spells a response is read as its tokens, all of it.
@@ -320,18 +318,18 @@ module _ (charset : N.Charset) (room : ℕ) where
 
   -- No payload spells the tokens of two responses.
   pub one_response : (a b : List Token) (payload : List ℕ) → N.Response charset room a payload → N.Response charset room b payload → a ≡ b
-  one_response a b payload h k = ap (λ p. p.tokens) (N.one_state _ _ _ _ _ (response_is_read h) (response_is_read k))
+  one_response a b _ h k = ap (λ p. p.tokens) (N.one_state _ _ _ _ _ (response_is_read h) (response_is_read k))
 
   -- No response begins with an element that is refused.
   pub refused_response : (payload more' : List ℕ) (place : ℕ) (part : Part) (f : Fault) (tokens : List Token)
       → N.Longest (response charset room) N.response_start payload place part → N.IsRefused (response charset room) part (drop place payload) f
       → N.Response charset room tokens (take (place + (response charset room).size part) payload ++ more') → ⊥
-  refused_response payload more' place part f tokens l r h = N.refused_for_good _ _ _ _ _ f _ _ l.spelt r
-      (rw (N.take-add place ((response charset room).size part) payload) at (response_is_read h))
+  refused_response _ more' _ _ f _ l r h = N.refused_for_good _ _ _ _ _ f _ _ l.spelt r
+      (rw N.take-add at (response_is_read h))
 
   -- No input begins with two accepted responses.
   pub one_accepted : (size limit : ℕ) (a b : List Token) (p q : List N.Packet) (input : List ℕ) → N.Accepted charset size room limit a p input
       → N.Accepted charset size room limit b q input → (a ≡ b) × (p ≡ q)
-  one_accepted size limit a b p q input h k =
+  one_accepted _ _ a b p q _ h k =
       let same = N.one_message _ _ p q _ _ _ _ h.message k.message (sym h.begins ∙ k.begins) in
       (grind (arith, one_response))

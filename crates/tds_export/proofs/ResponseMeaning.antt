@@ -55,7 +55,7 @@ notice_spelt body h =
 module _ (charset : N.Charset) (room : ℕ) where
   one_more_token : (current : Option (List Column)) (ts : List Token) (a : List ℕ) (t : Token) (e : List ℕ) → N.SpellsTokens charset room current ts a
       → N.SpellsToken charset room (N.described_after current ts) t e → N.SpellsTokens charset room current (ts ++ t ∷ []) (a ++ e)
-  one_more_token current [] a t e h s = grind (arith, N.append-nil)
+  one_more_token _ [] a t e h s = grind (arith, N.append-nil)
   one_more_token current (u ∷ ts) a t e h s = (
     h.0,
     h.1 ++ e,
@@ -109,25 +109,25 @@ module _ (charset : N.Charset) (room : ℕ) where
   row_token : {current : Option (List Column)} {columns : List Column} (nbc : Bool) (cells : List N.Cell) (first : ℕ) (rest : List ℕ)
       → current ≡ Some columns → N.IsFirst (row_lead nbc) first → N.RowMeans charset columns nbc (N.WholeRow cells) rest
       → N.SpellsRowToken charset current cells (first ∷ rest)
-  row_token false cells first rest e begins h = grind arith
-  row_token true cells first rest e begins h = rw e (rest, N.inr ((first, refl, begins), h))
+  row_token false _ first _ e begins h = grind arith
+  row_token true _ first rest e begins h = rw e (rest, N.inr ((first, refl, begins), h))
 
   with_row_means : {tokens : List Token} (part : N.RowPart) {b : List ℕ} {columns : List Column} (nbc : Bool)
       → N.described_after None tokens ≡ Some columns → AfterLead tokens (row_lead nbc) (N.RowMeans charset columns nbc part) b
       → PartMeans (N.with_row tokens part) b
   with_row_means (N.WholeRow cells) nbc e h = token_means _ h (grind (arith, row_token))
-  with_row_means part {columns} nbc e h = (columns, nbc, e, h)
+  with_row_means _ {columns} nbc e h = (columns, nbc, e, h)
 
   with_return_means : {tokens : List Token} (part : N.ReturnPart) {b : List ℕ} → AfterLead tokens N.AReturn (ReturnMeans part) b
       → PartMeans (N.with_return tokens part) b
   with_return_means (N.WholeReturn r) h = token_means _ h (grind arith)
-  with_return_means part h = h
+  with_return_means _ h = h
 
   row_begins : (tokens : List Token) (b : List ℕ) (x : ℕ) (current : Option (List Column)) → N.described_after None tokens ≡ current
       → N.row_byte_fault true current ≡ None → N.SpellsTokens charset room None tokens b → N.lead_of x ≡ Some N.ARow
       → PartMeans (N.start_of_row tokens (N.row_start N.PlainRow charset) current) (b ++ x ∷ [])
-  row_begins tokens b x None e f h begins = cc
-  row_begins tokens b x (Some columns) e f h begins =
+  row_begins _ b x None e f h begins = cc
+  row_begins _ b x (Some columns) e f h begins =
       with_row_means _ _ e (record { front = b; first = x; rest = []; spelt = refl; before = h; begins = grind arith; follows = N.row_start_means _ _ })
 
   byte_step : (tokens : List Token) (b : List ℕ) (x : ℕ) (begun : Option Lead) → N.lead_of x ≡ begun → N.SpellsTokens charset room None tokens b
@@ -150,7 +150,7 @@ module _ (charset : N.Charset) (room : ℕ) where
   part_step (N.Describing d) b {e} bytes h n = with_described_means _ (further e h (grind (arith, N.described_step)))
   part_step (N.InRow part) b {e} bytes (columns, nbc, is, h) n = with_row_means _ _ is (further e h (grind (arith, N.row_step)))
   part_step (N.InReturn part) b {e} bytes h n = with_return_means _ (further e h (grind (arith, return_step)))
-  part_step {tokens} (N.TokenLength k) b {e} bytes h n =
+  part_step (N.TokenLength k) b {e} bytes h n =
       let t = N.two_bytes e n.whole bytes in
       let read = ap (λ v. v ++ e) h.follows ∙ t.0 in
       N.choose (λ p. PartMeans p (b ++ e)) _ _ _ (λ z. body_means (further e h (read ∙ ap (λ v. v % 256 ∷ v / 256 ∷ []) (N.eq_true _ 0 z), omega arith))

@@ -13,7 +13,7 @@ pub record Runs (charset : N.Charset) (u v : View) (progress : N.Progress) : Typ
 
 abbrev pub runs_none : {charset : N.Charset} {u : View} {progress : N.Progress} → u.held.delivered ≤ 2 ^ 64 - 1 → N.Tracks progress []
     → u.area ≡ N.empty u.area.room → N.IsNoted u.notice [] → Runs charset u u progress
-runs_none {u} d tracks is noted = record {
+runs_none d tracks is noted = record {
   tokens = [];
   streams = grind (arith, N.Spelt-none, N.Takes-none, N.Puts-none);
   place_is = omega arith;
@@ -67,8 +67,7 @@ module _ {charset : N.Charset} {u v : View} {s : N.Progress} (x : Runs charset u
       tokens = x.tokens;
       bytes = x.streams.bytes;
       spelt = x.streams.spelt;
-      takes = N.subst (λ l. N.Takes u.seen c l (N.length x.streams.bytes + 1)) (N.append-nil x.streams.bytes)
-          (N.Takes-trans u.seen v.seen c _ _ _ 1 (omega arith) x.streams.takes t);
+      takes = rw N.append-nil at (N.Takes-trans u.seen v.seen c x.streams.bytes [] (N.length x.streams.bytes) 1 (omega arith) x.streams.takes t);
       puts = x.streams.puts;
       over = o;
       final = grind arith;

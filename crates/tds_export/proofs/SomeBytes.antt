@@ -37,5 +37,5 @@ then_ends = grind (arith, N.Spelt-append)
 pub bytes_induct : {S : Type 0} {g : N.Grammar S N.Fault} (P : S → List ℕ → Type 0)
     → ((s : S) (b e : List ℕ) → P s b → AreBytes e → N.IsNext g s e → P (g.add s e) (b ++ e)) → (s : S) → P s [] → (bytes : List ℕ) (t : S)
     → AreBytes bytes → N.Spelt g s bytes t → P t bytes
-bytes_induct {g} P step s begins bytes t are h =
+bytes_induct {g} P step s begins _ t are h =
     N.Spelt-induct g (λ q b. AreBytes b → P q b) (grind (arith, N.AreBytes-front, N.AreBytes-back)) s (λ all. begins) _ t h are

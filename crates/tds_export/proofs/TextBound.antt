@@ -1,8 +1,108 @@
 -- The text so far is no longer than 64 bytes for each byte read.
 use Rattle.tds_export.proofs as N
-use N.{Bool, Column, List, None, Part, Some, [], arith, choose, false, joined, length, length-append, response, text, true, ℕ, ◌*◌, ◌++◌, ◌+◌, ◌∷◌, ◌≡◌, ◌≤◌}
-use N.FieldLengths.{long_length, long_more, open_length, open_more, read_short}
-use N.TokenLaws.{bare, bare_body, bare_fixed, begun_after, text_after-snoc}
+use N.{Conversion, HexDigits, List, [], arith, choose, emit, length, true, ℕ, ◌*◌, ◌++◌, ◌+◌, ◌<◌, ◌^◌, ◌∷◌, ◌≡◌, ◌≤◌, ⊤, Bool, Column, None, Part, Some}
+use N.{false, joined, length-append, response, text}
+use N.SomeBytes.{byte_below, little_below}
+use N.TokenLaws.{bare, bare_body, bare_fixed, begun_after, texts}
+use N.Words.{utf16_chars}
+use Rattle.tds_values.specs.declared.kind.Kind.TheVariants as kinds
+
+-- ---- the text of data
+
+-- four bytes for each character, with its quotes doubled
+characters_length : (cs : List ℕ) → length (N.doubled (N.encode_utf8_all cs)) ≤ 4 * length cs
+characters_length [] = omega arith
+characters_length (c ∷ cs) = grind (arith, N.doubled-append, N.doubled_length, length-append, (characters_length cs))
+
+-- no more characters than units
+chars_length : (us : List ℕ) → length (utf16_chars us) ≤ length us
+unfolding utf16_chars
+chars_length [] = omega arith
+chars_length (u ∷ []) = omega arith
+chars_length (u ∷ v ∷ us) = grind (arith, choose, (chars_length (v ∷ us)), (chars_length us))
+
+-- a byte is doubled at most
+doubled_most : (bytes : List ℕ) → length (N.doubled bytes) ≤ 2 * length bytes
+doubled_most [] = omega arith
+doubled_most (b ∷ bytes) = grind (arith, length-append, (doubled_most bytes))
+
+-- four bytes for each byte
+conversion_length : (c : Conversion) (bytes : List ℕ) → length (N.conversion_text c bytes) ≤ 4 * length bytes
+conversion_length = grind (arith, characters_length, chars_length, doubled_most, N.length-encode_with, N.length-map, N.length-units)
+
+-- nor is the fixed text longer
+emit_length : (c : Conversion) (bytes : List ℕ) → length (emit (N.conversion_rest c) (N.conversion_text c) bytes) ≤ 4 * length bytes
+emit_length = grind (arith, conversion_length, N.length-take)
+
+-- a field that begins
+open_length : (c : Conversion) → length (N.open_field c []) ≤ 2
+open_length HexDigits = omega (arith, emit_length HexDigits [])
+open_length c = omega (arith, emit_length c [])
+
+-- a whole field
+long_length : (c : Conversion) (bytes : List ℕ) → length (N.long_field c bytes) ≤ 2 + 4 * length bytes
+long_length HexDigits bytes = omega (arith, conversion_length HexDigits bytes)
+long_length c bytes = omega (arith, conversion_length c bytes, length-append (N.conversion_text c bytes) (N.quote ∷ []))
+
+-- what a piece adds
+emit_more : (c : Conversion) (a b : List ℕ) → N.is_begun c (a ++ b) ≡ true
+    → length (emit (N.conversion_rest c) (N.conversion_text c) (a ++ b)) ≤ length (emit (N.conversion_rest c) (N.conversion_text c) a) + 4 * (3 + length b)
+emit_more c a b h =
+    let j = N.joins_by_name c in
+    let begins = (N.begun_by_test c _).0 h in
+    let e = j.emits a b begins in
+    let short = j.short a (j.front a b begins) in
+    grind (arith, N.joins_by_name, N.begun_by_test, length-append, emit_length)
+
+-- what the end adds
+text_more : (c : Conversion) (a : List ℕ) → N.is_fit c a ≡ true → N.is_begun c a ≡ true
+    → length (N.conversion_text c a) ≤ length (emit (N.conversion_rest c) (N.conversion_text c) a) + 12
+text_more c a h b =
+    let j = N.joins_by_name c in
+    let short = j.short a ((N.begun_by_test c a).0 b) in
+    grind (arith, N.joins_by_name, N.fit_by_test, N.begun_by_test, length-append, conversion_length)
+
+-- a piece adds four bytes for each byte, and for each of three that were withheld
+open_more : (c : Conversion) (a b : List ℕ) → N.is_begun c (a ++ b) ≡ true
+    → length (N.open_field c (a ++ b)) ≤ length (N.open_field c a) + 4 * (3 + length b)
+open_more HexDigits a b h = omega (arith, emit_more HexDigits a b h)
+open_more c a b h = omega (arith, emit_more c a b h)
+
+-- the end adds the text that was withheld, and a quote
+long_more : (c : Conversion) (a : List ℕ) → N.is_fit c a ≡ true → N.is_begun c a ≡ true → length (N.long_field c a) ≤ length (N.open_field c a) + 13
+long_more HexDigits a h b = omega (arith, text_more HexDigits a h b)
+long_more c a h b = omega (arith, text_more c a h b, length-append (N.conversion_text c a) (N.quote ∷ []))
+
+-- ---- the text of a scalar
+
+-- an integer fits
+integer_fits : (n : ℕ) (xs : List ℕ) → N.AreBytes xs → N.unsigned_abs (N.integer_of n xs) < 2 ^ 64
+integer_fits = grind (arith, byte_below, choose)
+
+-- the numbers of a value, if there is one, fit
+abbrev AllFit : N.Option N.ScalarValue → Type 0
+AllFit None = ⊤
+AllFit (Some v) = N.FitsWidths v
+
+-- the bytes of a kind spell numbers that fit
+values_fit : (kind : N.Kind) (e : List ℕ) → N.AreBytes e → N.is_length_allowed kind (length e) ≡ true → AllFit (N.value_of kind e)
+values_fit kinds.Int1 e h k = integer_fits 1 e h
+values_fit (kinds.IntN n) e h k = integer_fits n e h
+values_fit (kinds.Decimal n precision scale) e h k = grind (arith, little_below, N.and_parts)
+values_fit _ e h k = grind arith
+
+-- the text of a value that is read
+abbrev ReadShort : N.Result N.ScalarValue N.ValueFault → Type 0
+ReadShort (N.Ok v) = length (N.text_of v) ≤ 41
+ReadShort (N.Err f) = ⊤
+
+-- a value in its range has a short text
+checked_short : (o : N.Option N.ScalarValue) → AllFit o → ReadShort (N.checked o)
+checked_short = grind (arith, choose, N.length-text_of)
+
+-- so has each value that is read
+read_short : (kind : N.Kind) (e : List ℕ) → N.AreBytes e → ReadShort (N.read_of kind e)
+read_short = grind (arith, choose, checked_short, values_fit)
 
 -- ---- fields
 
@@ -24,7 +124,7 @@ one_more_length = grind (arith, last_length, before_last_most)
 
 -- the field that is read has at most 48 bytes more
 abbrev FieldMore : N.Option (List ℕ) → N.Option (List ℕ) → Type 0
-FieldMore None None = N.⊤
+FieldMore None None = ⊤
 FieldMore None (Some b) = length b ≤ 48
 FieldMore (Some a) None = ⊥
 FieldMore (Some a) (Some b) = length b ≤ length a + 48
@@ -34,16 +134,11 @@ FieldMore (Some a) (Some b) = length b ≤ length a + 48
 module _ (column : ℕ) where
   -- each element of a cell adds no more
   cell_more : (p : N.CellPart) {e : List ℕ} → N.AreBytes e → N.IsNext (N.cell column) p e → FieldMore (N.field_so_far p) (N.field_so_far (N.cell_add p e))
-  cell_more (N.ScalarBytes k i) bytes n = grind (arith, read_short)
-  cell_more (N.ScalarLength k) {e} bytes n = grind (arith, choose)
-  cell_more (N.ShortLength c) bytes n = grind (arith, choose, long_length, open_length)
-  cell_more (N.Total c) bytes n = grind (arith, choose, open_length)
-  cell_more (N.WholeCell x) bytes n = omega arith
-  cell_more (N.ShortData c left content) bytes n = grind (arith, N.and_parts, choose, N.last_fit, long_more, open_more, N.unless_none)
   cell_more (N.ChunkLength c total content) {e} bytes n = choose (λ p. FieldMore (Some (N.open_field c content)) (N.field_so_far p)) _ _ _
       (λ z. let fit = N.end_fit column c total content e n.free z in let end = long_more c content fit
       (N.fit_begins c content [] (rw (N.append-nil content) fit)) in omega arith) (λ z. omega arith)
-  cell_more (N.ChunkData c total left content) bytes n = grind (arith, choose, open_more, N.unless_none)
+  cell_more p bytes n =
+      grind (arith, N.and_parts, choose, N.last_fit, long_length, long_more, open_length, open_more, read_short, N.unless_none)
 
 -- ---- a row, whose cells to come that are NULL by their bit are paid by the bitmap
 
@@ -56,7 +151,7 @@ how_many_null ((k, false) ∷ ks) = how_many_null ks
 -- their text
 abbrev row_pending : N.RowPart → ℕ
 row_pending (N.InCell cells part ks) = 5 * how_many_null ks
-row_pending part = 0
+row_pending _ = 0
 
 -- the text so far of a row, and what is paid for
 abbrev row_length : N.RowPart → ℕ
@@ -64,7 +159,7 @@ row_length part = length (N.row_so_far part) + row_pending part
 
 -- no more of them than columns
 null_most : (columns : List Column) (nulls : ℕ → Bool) (k : ℕ) → how_many_null (N.marked columns nulls k) ≤ length columns
-null_most [] nulls k = omega arith
+null_most [] _ k = omega arith
 null_most (c ∷ columns) nulls k = grind (arith, (null_most columns nulls (k + 1)))
 
 -- none without a bitmap
@@ -76,9 +171,9 @@ module _ (charset : N.Charset) where
   -- the cells to come begin
   next_length : (cells : List N.Cell) (ks : List (Column × Bool))
       → row_length (N.next_cell charset cells ks) ≤ length (joined (N.map N.field cells)) + 5 * how_many_null ks + 2
-  next_length cells [] = grind (arith, length-append, joined)
+  next_length _ [] = grind (arith, length-append, joined)
   next_length cells ((k, true) ∷ ks) = grind (arith, N.map-append, one_more_length, (next_length (cells ++ N.Null ∷ []) ks))
-  next_length cells ((k, false) ∷ ks) = grind (arith, N.start_quiet)
+  next_length _ ((k, false) ∷ ks) = grind (arith, N.start_quiet)
 
 -- ---- a description, whose columns pay for its header
 
@@ -106,7 +201,7 @@ module _ (room : ℕ) where
   -- each element of a description pays for what it adds
   described_more : {d : N.DescriptionPart} {e : List ℕ} → N.IsNext (N.description room) d e
       → described_pending (N.add_described d e) ≤ described_pending d + 64 * length e
-  described_more n = grind (arith, choose, header_more)
+  described_more = grind (arith, choose, header_more)
 
 -- ---- a response
 
@@ -122,7 +217,7 @@ grown p = length (N.text_so_far p) + pending p.at
 
 -- a row in its response
 with_row_grown : (tokens : List N.Token) (part : N.RowPart) → grown (N.with_row tokens part) ≤ length (text tokens) + row_length part
-with_row_grown = grind (arith, length-append, N.append-nil, begun_after, text_after-snoc)
+with_row_grown = grind (arith, length-append, begun_after, texts)
 
 module _ (charset : N.Charset) (room : ℕ) where
   -- each element pays for what it adds
@@ -145,8 +240,7 @@ module _ (charset : N.Charset) (room : ℕ) where
     none_null,
     with_row_grown,
     begun_after,
-    N.append-nil,
-    text_after-snoc,
+    texts,
     length-append,
   )
 
@@ -158,4 +252,4 @@ module _ (charset : N.Charset) (room : ℕ) where
   -- the text so far is at most 64 times as long as all that is read
   pub bounded_along : (q : Part) (bytes : List ℕ) → N.AreBytes bytes → N.Spelt (response charset room) N.response_start bytes q
       → length (N.text_so_far q) ≤ 64 * length bytes
-  bounded_along q bytes are h = omega (arith, grown_along are h)
+  bounded_along q _ are h = omega (arith, grown_along are h)

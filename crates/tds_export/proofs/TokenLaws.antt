@@ -6,15 +6,18 @@ use N.{ℕ, ◌++◌, ◌+◌, ◌<◌, ◌∷◌, ◌≡◌}
 -- whether a set has begun after these tokens
 abbrev pub begun_after : Bool → List Token → Bool
 begun_after begun [] = begun
-begun_after begun (Metadata bytes columns ∷ ts) = begun_after true ts
+begun_after _ (Metadata bytes columns ∷ ts) = begun_after true ts
 begun_after begun (t ∷ ts) = begun_after begun ts
 
 pub text_after-snoc : (begun : Bool) (ts : List Token) (t : Token)
     → text_after begun (ts ++ t ∷ []) ≡ text_after begun ts ++ text_after (begun_after begun ts) (t ∷ [])
-text_after-snoc begun [] t = refl
-text_after-snoc begun (Metadata bytes columns ∷ ts) t = cc (text_after-snoc true ts t, N.append_assoc _ (text_after true ts) (text_after _ (t ∷ [])))
+text_after-snoc _ [] t = refl
+text_after-snoc _ (Metadata bytes columns ∷ ts) t = cc (text_after-snoc true ts t, N.append_assoc _ (text_after true ts) (text_after _ (t ∷ [])))
 text_after-snoc begun (Row cells ∷ ts) t = cc (text_after-snoc begun ts t, N.append_assoc _ _ (text_after _ (t ∷ [])))
 text_after-snoc begun (u ∷ ts) t = text_after-snoc begun ts t
+
+-- one more text
+pub ruleset texts = (N.append-nil, text_after-snoc)
 
 begun_true : (ts : List Token) → begun_after true ts ≡ true
 begun_true [] = refl
@@ -95,7 +98,7 @@ pub record IsBare (t : Token) : Type 0 where
   pub columns : (before : N.Option (List N.Column)) → N.described_after before (t ∷ []) ≡ before
 
 pub bare : {t : Token} → is_bare t ≡ true → IsBare t
-bare h = grind arith
+bare = grind arith
 
 -- tokens with a body are so
 pub bare_body : (which : N.Bodied) (body : List ℕ) → is_bare (N.bodied which body) ≡ true
@@ -125,17 +128,17 @@ pub ruleset tracked = (N.ResponseLaws.described_after-append, encoded_after-appe
 
 module _ {s : N.Progress} {ts : List Token} (k : N.Reflects s ts false) where
   pub tracks_quiet : (t : Token) {final : Bool} → is_quiet t ≡ true → final ≡ is_final (t ∷ []) → Tracks (record s { is_final = final }) (ts ++ t ∷ [])
-  tracks_quiet t is e = grind (arith, tracked)
+  tracks_quiet = grind (arith, tracked)
 
   pub tracks_body : (which : N.Bodied) (body : List ℕ) → N.is_notice which ≡ false → Tracks s (ts ++ N.bodied which body ∷ [])
-  tracks_body (N.APassed passed) body h = tracks_quiet _ refl k.final
-  tracks_body which body h = cc
+  tracks_body (N.APassed passed) _ h = tracks_quiet _ refl k.final
+  tracks_body _ _ h = cc
 
   pub tracks_row : (cells : List N.Cell) → Tracks (with_rows s 1) (ts ++ Row cells ∷ [])
-  tracks_row cells = grind (arith, tracked)
+  tracks_row = grind (arith, tracked)
 
   -- ---- ERROR and INFO
 
   pub tracks_error : (n : N.Notice) {first : N.Option N.ServerError} → first ≡ N.option_map N.server_error (first_error (ts ++ Error n ∷ []))
       → Tracks (record s { report = record s.report { errors = s.report.errors + 1; first_error = first } }) (ts ++ Error n ∷ [])
-  tracks_error n e = grind (arith, tracked)
+  tracks_error = grind (arith, tracked)

@@ -1,19 +1,251 @@
 -- What an export answers, where its reader and writer tell their bytes.
 use Rattle.tds_export.proofs as N
-use N.{AreBytes, Bool, ExportInput, SinkView, IsWriter, List, Ok, Packet, Part, Puts, Run, PayloadView, Some, Spelt, Stop, [], ap, append-nil, arith, drop}
-use N.{fresh_at, grammar, inl, inr, length, length-append, limits, more, payload_of, read, refl, response, response_start, run_of, subst, sym, take}
-use N.{text, text_put, text_so_far, wire_of, ℕ, ◌*◌, ◌++◌, ◌+◌, ◌-◌, ◌/◌, ◌<◌, ◌∙◌, ◌∷◌, ◌≡◌, ◌≤◌}
-use N.Words.{Tells}
-use N.SomeBytes.{AreBytes-append}
-use N.Peaks.{Reached, bounded, reached_stopped}
-use N.TextBound.{bounded_along}
+use N.{List, Run, Some, Stop, [], ap, arith, grammar, inl, inr, length, text, ℕ, ◌++◌, ◌<◌, ◌∙◌, ◌≡◌, limits, ◌+◌, Fault, Packet, Spelt, Token, wire}
+use N.{wire_of, ◌-◌, ◌==◌, ◌⊎◌, ◌∷◌, ◌≤◌, Part, AreBytes, Bool, ExportInput, SinkView, IsWriter, Ok, Puts, PayloadView, append-nil, drop, fresh_at}
+use N.{length-append, payload_of, refl, response, response_start, run_of, subst, sym, take, text_put, text_so_far, ◌*◌, ◌/◌}
 use N.DeviceFaults.{no_failure}
-use N.AcceptedSucceeds.{further, outcome_succeeds, rest_leads}
-use N.ResponseMeaning.{response_is_spelt}
-use N.ResponseLaws.{spelt_both}
 use N.ReadingGrows.{text_along}
-use N.PacketOutcomes.{ReaderSide, kept_at, reading_stops, start}
+use N.ResponseLaws.{one_accepted, refused_response, response_is_read, spelt_both}
+use N.ResponseMeaning.{response_is_spelt}
+use N.SomeBytes.{AreBytes-append}
+use N.TextBound.{bounded_along}
+use N.Words.{Told, Tells}
 use native.Mathlib.Decide.{dec_le}
+
+-- ---- how an export ended, by the packets of its input
+
+-- what the area holds at a part is kept, whatever follows
+kept_at : (area : N.Space) (tokens : List Token) (at : N.Open) (rest : List ℕ) → area.bytes ≡ N.description_of tokens at
+    → N.IsKept area.bytes tokens at rest
+kept_at _ _ (N.Describing d) rest e = (rest, cc)
+kept_at _ _ at _ e = e
+
+-- the reader's side of a run that began at the front of its input
+pub record ReaderSide (run : Run) (q : PayloadView) : Type 0 where
+  pub bytes : AreBytes run.input
+  pub left : q.left ≡ Some run.left
+  pub failures : q.failures ≡ run.given.after.reader.failures
+
+abbrev pub start : Run → PayloadView
+start run = N.begun (limits run).packet_size (limits run).max_wire (Some run.input) run.given.before.reader.failures
+
+zero : (n : ℕ) → 0 + n ≡ n
+zero n = omega arith
+
+-- the bytes after a state
+rest_of : (bytes : List ℕ) {part payload : List ℕ} → payload ≡ bytes ++ part → drop (length bytes) payload ≡ part
+rest_of = grind (arith, N.drop-append_seam)
+
+module _ (run : Run) {q : PayloadView} {part : Part} {bytes : List ℕ} (side : ReaderSide run q) (spelt : Spelt (grammar run) response_start bytes part)
+    (holds : N.IsHolding run.given.after.areas.description part) (text : text_put run ≡ text_so_far part) where
+  -- what the area holds is kept
+  kept : (packets : List Packet) → N.Keeps run packets (length bytes) part
+  kept = grind (arith, kept_at)
+
+  -- an element was refused
+  refused_in_payload : {fault : Fault} → N.RefusesNext (grammar run) (start run) q bytes part fault → N.StopsInPayload run fault (length bytes)
+  refused_in_payload {fault} x =
+      let g = grammar run in
+      let e = x.element in
+      let b = N.takes_begins _ _ _ _ _ q _ _ side.bytes side.left x.takes x.between in
+      let payload : payload_of b.packets ≡ bytes ++ (e ++ (x.ahead ++ (q.future []).bytes)) = grind (arith, N.append_assoc) in
+      let refused : N.IsRefused g part (e ++ (x.ahead ++ (q.future []).bytes)) fault = grind (arith, length-append, N.take-append_seam) in
+      let last = N.in_last _ _ _ _ _ _ q _ _ side.left x.takes b (grind (arith, length-append)) in
+      record {
+        packets = b.packets;
+        part = part;
+        stands = grind arith;
+        leads = rw payload (N.longest_refused g _ _ _ _ _ spelt refused);
+        first = grind (arith, rest_of, refused, length-append);
+        written = text;
+        kept = kept b.packets;
+      }
+
+  module _ (cut : List ℕ) (short : length cut < (grammar run).size part) where
+    -- the message ended
+    ended_in_payload : {own : Stop} {fault : Fault}
+        → N.EndsMessage (limits run).packet_size (limits run).max_wire run.input run.left (bytes ++ cut) run.given.before.reader.failures q.failures own
+        → (grammar run).end_fault part ≡ Some fault → N.StopsInPayload run fault (length bytes)
+    ended_in_payload m end = record {
+      packets = m.packets;
+      part = part;
+      stands = grind arith;
+      leads = rw m.payload_is (N.longest_cut _ _ _ _ _ spelt short);
+      first = grind (arith, rest_of);
+      written = text;
+      kept = kept m.packets;
+    }
+
+    -- the payload stopped on the wire
+    stopped_on_wire : {stop : Stop} → (x : N.StopsAfterPackets (limits run).packet_size (limits run).max_wire run.input run.left (bytes ++ cut)
+        run.given.before.reader.failures q.failures stop) → N.StopsOnWire run stop.fault (length (wire_of x.packets))
+    stopped_on_wire x =
+        record {
+          packets = x.packets;
+          rest = x.more;
+          place = length bytes;
+          part = part;
+          begin = x.begin;
+          before = x.each;
+          within = x.within;
+          taken_is = refl;
+          first = grind arith;
+          leads = rw x.payload_is (N.longest_cut (grammar run) _ bytes cut part spelt short);
+          none_refused = grind (arith, rest_of);
+          written = text;
+          kept = kept x.packets;
+        }
+
+  -- the payload stopped before the next element was whole
+  cut_stops : {stop : Stop} → N.CutsNext (grammar run) (start run) q bytes 0 part stop → N.Stops run stop.fault stop.place
+  cut_stops c = elim (N.ends_front _ _ _ _ _ q _ _ side.bytes side.left c.ends) [
+    | inl m ↦ elim c.stop_is [
+      | inl e ↦ rw (e.1.2 ∙ ap (λ n. record { fault = e.1.0; place = N.Payload n }) (zero _)) (ended_in_payload _ c.cut m e.1.1)
+      | inr e ↦ absurd (e.0 (cc))
+    ]
+    | inr x ↦ elim c.stop_is [
+      | inl e ↦ grind (arith, N.wire_goes_on)
+      | inr e ↦ rw e.1 (grind (arith, stopped_on_wire))
+    ]
+  ]
+
+-- how a run that read stops
+reading_stops : {run : Run} {q : PayloadView} {at : Part} {stop : Stop} → ReaderSide run q
+    → N.StopsReading (grammar run) response_start (start run) q 0 at stop → N.IsHolding run.given.after.areas.description at
+    → text_put run ≡ text_so_far at → N.Stops run stop.fault stop.place
+reading_stops side s holds text = elim s.cause [
+  | inl r ↦ rw (r.1 ∙ ap N.Payload (zero _)) (refused_in_payload _ side s.spelt holds text r.0)
+  | inr c ↦ cut_stops _ side s.spelt holds text c
+]
+
+-- ---- packets at the front of a message
+
+-- a list of packets begins with another
+abbrev BeginsWith : List Packet → List Packet → Type 0
+BeginsWith packets front = (tail : List Packet) × (front ++ tail ≡ packets)
+
+begins_more : (front : List Packet) {packets : List Packet} (p : Packet) → BeginsWith packets front → BeginsWith (packets ++ p ∷ []) front
+begins_more _ p h = (h.0 ++ p ∷ [], cc (N.append_assoc _ h.0 _))
+
+begins_added : (front : List Packet) {packets : List Packet} (place : N.WirePlace) (element : List ℕ) → BeginsWith packets front
+    → BeginsWith (N.wire_add packets place element).packets front
+begins_added front {packets} N.BeforeHeader element h = N.choose (λ w. BeginsWith w.packets front) (N.header_length element == 8) (N.with_packet packets _)
+    (record { packets = packets; place = N.BeforeBody element }) (λ z. begins_more front _ h) (λ z. h)
+begins_added _ (N.BeforeBody header) _ h = begins_more _ _ h
+begins_added _ N.AfterLast _ h = h
+
+-- what follows whole elements leads from where they lead
+rest_leads : {S : Type 0} {g : N.Grammar S N.Fault} {s t u : S} {a b : List ℕ} → Spelt g s a t → Spelt g s (a ++ b) u → Spelt g t b u
+unfolding Told
+rest_leads = grind (arith, append-nil, N.feed-Spelt, N.feed_all, N.feed_all-append, N.told)
+
+-- what follows such bytes, up to the longest part
+pub further : {S : Type 0} (g : N.Grammar S N.Fault) (from to last : S) (bytes more : List ℕ) (place : ℕ) → Spelt g from bytes to
+    → N.Longest g from (bytes ++ more) place last → (rest : List ℕ) × Spelt g to rest last
+further g from to last bytes more place h l =
+    let least = l.longest (length bytes) to (grind (arith, length-append)) (rw N.take-append_seam h) in
+    let n = place - length bytes in
+    let sum : length bytes + n ≡ place = omega arith in
+    (take n more, rest_leads h (grind (arith, N.take-append-add)))
+
+-- whole packets at the front of an input begin those that are read of it at most
+front_begins : (size : ℕ) {limit : ℕ} {input : List ℕ} (rest : List ℕ) (packets : List Packet) {w : N.WirePart} {taken : ℕ}
+    → wire_of packets ++ rest ≡ input
+    → N.AreMessage size packets ⊎ N.AreBefore size packets → length (wire_of packets) ≤ limit → N.Longest (wire size limit) N.no_wire input taken w
+    → BeginsWith w.packets packets
+front_begins size {limit} _ packets {w} begin each within l =
+    let read : (place : N.WirePlace) × Spelt (wire size limit) N.no_wire (wire_of packets) (record { packets = packets; place = place }) =
+    grind (arith, N.message_is_read size limit [] packets, N.before_are_read size limit [] packets) in
+    N.Spelt-induct _ (λ v b. BeginsWith v.packets packets) (grind (arith, begins_added)) _ ([], append-nil packets) _ w
+    (further _ _ _ w _ _ _ read.1 (rw (← begin) at l)).1
+
+-- a message is what is read at most of an input that begins with it
+message_longest : {size limit : ℕ} {input wires : List ℕ} (unread : List ℕ) {packets : List Packet} → N.Message size limit packets wires
+    → input ≡ wires ++ unread → (taken : ℕ) × N.Longest (wire size limit) N.no_wire input taken (N.after_last size limit packets)
+unfolding Told
+message_longest {size} {limit} {input} unread {packets} m e =
+    let g = wire size limit in
+    let r = N.read_longest g N.no_wire input (N.Reading (N.after_last size limit packets) unread)
+    (subst (Told g N.no_wire input) (ap (N.feed_all g (N.Reading N.no_wire [])) e ∙ N.read_to_end _ _ _ _ _ m) (N.told g N.no_wire input)) in
+    (length r.0, r.2)
+
+-- the wire of a message has no fault
+no_wire_fault : {size limit : ℕ} {input wires : List ℕ} (unread : List ℕ) {packets read : List Packet} {fault : Fault} → N.Message size limit packets wires
+    → input ≡ wires ++ unread → N.WireFault size limit input read fault → ⊥
+no_wire_fault {size} {limit} unread m e f =
+    let same = (N.one_longest (wire size limit) _ _ _ _ _ _ f.longest (message_longest _ m e).1).1 in
+    grind arith
+
+-- ---- no stop of an accepted response is one of the input
+
+-- the packets read are those of the message, or begin it
+read_begin : {run : Run} {tokens : List Token} {read packets : List Packet} → N.Packets run read → (a : N.IsAccepted run tokens packets) → (more : List ℕ)
+    × (payload_of packets ≡ payload_of read ++ more)
+read_begin p a =
+    let begins = front_begins _ _ _ p.begin p.each p.within (message_longest _ a.message a.begins).1 in
+    grind (arith, N.flat_map-append)
+
+-- no run of an accepted response stops but by a device
+none_stops : (run : Run) (fault : Fault) (place : N.Place) → N.Stops run fault place → (tokens : List Token) (packets : List Packet)
+    → N.IsAccepted run tokens packets → (N.FailsToRead run.given → ⊥) → (N.FailsToWrite run.given → ⊥) → ⊥
+none_stops run _ (N.Payload place) x tokens _ a reads writes =
+    let g = grammar run in
+    let payload = payload_of x.packets in
+    elim x.first [
+      | inl r ↦ (let more = read_begin x.stands a in
+          let n = place + g.size x.part in
+          refused_response _ _ _ _ _ _ _ _ x.leads r.0 (rw (more.1 ∙ ap (λ v. v ++ more.0) (sym (N.take-append-drop n payload))
+          ∙ N.append_assoc (take n payload) (drop n payload) more.0) at a.response))
+      | inr r ↦ (let all : N.Response run.given.charset (limits run).column_room tokens payload = rw (N.one_message _ _ _ _ _ _ _ _
+          (record { spelt = refl; each = r.0; within = x.stands.within }) a.message (x.stands.begin ∙ a.begins)) a.response in
+          let longest = N.longest_cut g _ _ [] _ (response_is_read _ _ all) (omega arith) in
+          let same = (N.one_longest g _ _ _ _ _ _ x.leads (rw append-nil at longest)).1 in
+          grind arith)
+    ]
+none_stops _ _ (N.Wire taken) x _ _ a reads writes = elim x.first [
+  | inl r ↦ reads r.1.failed
+  | inr r ↦ no_wire_fault _ a.message a.begins r
+]
+none_stops run fault (N.Text written) x tokens packets a reads writes = writes x.failed
+
+-- an answer that is true of an accepted response is its report
+outcome_succeeds : {run : Run} (result : N.Result N.Report N.Stopped) → N.Outcome run result → N.SucceedsIfAccepted run result
+outcome_succeeds (Ok report) r = λ tokens packets accepted reads writes. let same = one_accepted _ _ _ _ _ _ _ _ _ accepted r.accepted in
+    grind arith
+outcome_succeeds (N.Err stopped) r = λ _ _ a reads writes. absurd (none_stops _ _ _ r.stop _ _ a reads writes)
+
+-- ---- how much of a description was held in an export: no more than the span of one at the front of the input
+
+-- a part of a response was read from whole packets at the front of an input
+pub record Reached (run : Run) (at : Part) : Type 0 where
+  pub rest : List ℕ
+  pub bytes : List ℕ
+  pub more : List ℕ
+  pub begins : N.BeginsMessage (limits run).packet_size (limits run).max_wire run.input rest (bytes ++ more)
+  pub spelt : Spelt (grammar run) response_start bytes at
+
+bounded : {run : Run} {at : Part} → AreBytes run.input → Reached run at → run.given.after.areas.description.peak ≤ N.span_so_far at → N.Bounded run
+bounded {run} {at} are r peak =
+    let size = (limits run).packet_size in
+    let g = grammar run in
+    let l = N.some_longest (wire size ((limits run).max_wire)) N.no_wire run.input in
+    let b = front_begins size r.rest _ r.begins.begin r.begins.each r.begins.within l.2 in
+    let split : payload_of l.1.packets ≡ r.bytes ++ (r.more ++ payload_of b.0) = grind (arith, N.flat_map-append, N.append_assoc) in
+    let longest = N.some_longest g _ _ in
+    let f = further g _ at longest.1 r.bytes (r.more ++ payload_of b.0) longest.0 r.spelt (grind arith) in
+    let least = N.ReadingGrows.span_along _ _ at longest.1 f.0 f.1 in
+    record { packets = l.1.packets; place = longest.0; part = longest.1; front = N.read_front _ _ _ _ _ are l.2; leads = longest.2; description = omega arith }
+
+-- where a run stopped in reading
+reached_stopped : {run : Run} {q : PayloadView} {at : Part} {stop : Stop} → ReaderSide run q
+    → N.StopsReading (grammar run) response_start (start run) q 0 at stop → Reached run at
+reached_stopped {run} {q} side s = elim s.cause [
+  | inl r ↦ (let b = N.takes_begins _ _ _ _ _ q _ _ side.bytes side.left r.0.takes r.0.between in grind (arith, N.append_assoc))
+  | inr c ↦ elim (N.ends_front _ _ _ _ _ q _ _ side.bytes side.left c.ends) [
+    | inl m ↦ grind arith
+    | inr x ↦ grind arith
+  ]
+]
 
 -- ---- the text
 
@@ -31,7 +263,7 @@ abbrev sends : {given : ExportInput} (middle : SinkView) {l : SinkView} {put : L
     → Puts (fresh_at given) middle put → N.Adds middle l sent piece → Delivers given l (put ++ piece)
 sends {given} middle {l} {put} piece sent writer p a =
     let adds = N.Adds-trans (fresh_at given) middle l p.0 sent put piece p.2 a in
-    record { gained = p.0 ++ sent; has = rw writer.has at adds.0; all = ap (λ w. (p.0 ++ sent) ++ w) (sym writer.waiting) ∙ sym adds.1; delivered = adds.2 }
+    record { gained = p.0 ++ sent; has = rw writer.has at adds.0; all = cc (adds.1, writer.waiting); delivered = adds.2 }
 
 -- the payload of packets is shorter than their wire, and of bytes where that is
 payload_short : (packets : List Packet) → length (payload_of packets) ≤ length (wire_of packets)
@@ -40,20 +272,20 @@ payload_short (p ∷ packets) = grind (arith, length-append, (payload_short pack
 
 payload_bytes : (packets : List Packet) → AreBytes (wire_of packets) → AreBytes (payload_of packets)
 payload_bytes [] h = tt
-payload_bytes (p ∷ packets) h = AreBytes-append _ _ (grind (arith, N.AreBytes-back, N.AreBytes-front)) (payload_bytes packets (grind (arith, N.AreBytes-back)))
+payload_bytes (p ∷ packets) h = grind (arith, AreBytes-append, N.AreBytes-back, N.AreBytes-front, (payload_bytes packets))
 
 -- the text so far is within 64 times the limit of the wire
 fits_at : (run : Run) (packets : List Packet) (rest : List ℕ) (place : ℕ) (part : Part) (n : ℕ) → AreBytes run.input
     → wire_of packets ++ rest ≡ run.input → length (wire_of packets) ≤ (limits run).max_wire
     → Spelt (grammar run) response_start (take place (payload_of packets)) part → n ≤ length (text_so_far part) → n ≤ 64 * (limits run).max_wire
-fits_at run packets rest place part n are begin within spelt few =
+fits_at _ packets _ place _ n are begin within spelt few =
     let payload = payload_of packets in
     let most = bounded_along _ _ _ _ (N.AreBytes-front _ _ (rw (← N.take-append-drop place payload) at
     (payload_bytes packets (grind (arith, N.AreBytes-front))))) spelt in
     omega (arith, payload_short packets, ap length (N.take-append-drop place payload), length-append (take place payload) (drop place payload))
 
-fits : (run : Run) (fault : N.Fault) (place : N.Place) → AreBytes run.input → N.Stops run fault place → length (text_put run) ≤ 64 * (limits run).max_wire
-fits run fault place are x = grind (arith, fits_at, length-append)
+fits : (run : Run) (fault : Fault) (place : N.Place) → AreBytes run.input → N.Stops run fault place → length (text_put run) ≤ 64 * (limits run).max_wire
+fits = grind (arith, fits_at, length-append)
 
 -- the count of the bytes delivered is exact
 exact : (run : Run) (delivered : ℕ) → delivered ≡ N.counted 0 (length run.gained) → length (text_put run) ≤ 64 * (limits run).max_wire
@@ -66,7 +298,7 @@ exact = grind (arith, length-append)
 earlier_text : (charset : N.Charset) (room : ℕ) (bytes element : List ℕ) (p q : Part) (place : ℕ) → Spelt (response charset room) response_start bytes p
     → length element ≡ (response charset room).size p → place < length (bytes ++ element)
     → Spelt (response charset room) response_start (take place (bytes ++ element)) q → length (text_so_far q) ≤ length (text_so_far p)
-earlier_text charset room bytes element p q place h whole less k = elim (dec_le place (length bytes)) [
+earlier_text _ _ bytes element p q place h whole less k = elim (dec_le place (length bytes)) [
   | yes below ↦
       (let rest = text_along _ _ (rest_leads (rw (N.take-append-le place bytes element below) at k) (rw (← N.take-append-drop place bytes) at h)) in
       omega (arith, ap length rest.1, length-append (text_so_far q) rest.0))
@@ -120,7 +352,7 @@ broken {run} {q} {k} {at} side writer x holds gained all =
       spelt = rw (ap (take (length be)) payload_is ∙ N.take-append_seam be more) spelt;
     } in
     let reached : Reached run to =
-    record { rest = _; bytes = _; more = _; begins = rw (N.append_assoc be x.ahead (q.future []).bytes) at b; spelt = spelt } in (
+    record { rest = _; bytes = _; more = _; begins = rw N.append_assoc at b; spelt = spelt } in (
       record {
         packets = b.packets;
         place = longest.0;
@@ -141,7 +373,7 @@ broken {run} {q} {k} {at} side writer x holds gained all =
 -- ---- a run that read the whole response
 
 -- the whole message was read: it is an accepted response
-record WholeMessage (run : Run) (tokens : List N.Token) : Type 0 where
+record WholeMessage (run : Run) (tokens : List Token) : Type 0 where
   packets : List Packet
   stands : N.Packets run packets
   accepted : N.IsAccepted run tokens packets
@@ -158,11 +390,11 @@ whole_message_of {run} {a} {q} is side x =
     let most = bounded side.bytes reached x.holds.peak in
     grind (arith, payload_bytes, N.AreBytes-front, response_is_spelt, append-nil, N.longest_cut, kept_at)
 
-text_after_tokens : (tokens : List N.Token) → text_so_far (N.after_tokens tokens) ≡ text tokens
+text_after_tokens : (tokens : List Token) → text_so_far (N.after_tokens tokens) ≡ text tokens
 text_after_tokens = grind (arith, append-nil)
 
 -- the last delivery failed
-failed_at_end : {run : Run} {tokens : List N.Token} → WholeMessage run tokens → text_put run ≡ text tokens → N.FailsToWrite run.given
+failed_at_end : {run : Run} {tokens : List Token} → WholeMessage run tokens → text_put run ≡ text tokens → N.FailsToWrite run.given
     → N.StopsInText run N.WriteFailed (length run.gained)
 failed_at_end = grind arith
 
@@ -170,10 +402,10 @@ failed_at_end = grind arith
 
 -- the payload of a reader that told its bytes begins with them
 begins_run : (given : ExportInput) {input : List ℕ} → given.before.reader.bytes ≡ Some input → N.begun_at given ≡ start (run_of given input [] [])
-begins_run given e = cc
+begins_run _ e = cc
 
 -- all of the text was put, where the whole response was read
-whole_puts : {g : N.Grammar Part N.Fault} {a q : PayloadView} {h k : SinkView} {area : N.Space} → (x : N.ReadsWhole g response_start a q h k area)
+whole_puts : {g : N.Grammar Part Fault} {a q : PayloadView} {h k : SinkView} {area : N.Space} → (x : N.ReadsWhole g response_start a q h k area)
     → Puts h k (text x.tokens)
 whole_puts x = rw (x.puts.1 ∙ text_after_tokens x.tokens) at x.puts.2
 
@@ -228,13 +460,13 @@ module _ {given : ExportInput} {input left : List ℕ} {q : PayloadView} {stop :
       rw (same broke) (in_text w d.has d.delivered y.fails.2 (grind (arith, failed_at_end, append-nil, N.rose)))
 
 -- what a run that stopped read
-stops_read : {g : N.Grammar Part N.Fault} {a q : PayloadView} {h k : SinkView} {area : N.Space} {failed : Bool} {stop : Stop}
+stops_read : {g : N.Grammar Part Fault} {a q : PayloadView} {h k : SinkView} {area : N.Space} {failed : Bool} {stop : Stop}
     → N.RunStops g response_start a q 0 h k area failed stop → (read : List ℕ) × N.Consumes a.left q.left read
-stops_read h8 = grind arith
+stops_read = grind arith
 
 pub stop_tells : {given : ExportInput} {stopped : N.Stopped} → N.StopsExport given stopped → Tells given (N.Err stopped)
 unfolding Tells
-stop_tells {given} x = λ input are e. let stops = rw (begins_run given e) at x.stops in
+stop_tells {given} x = λ _ are e. let stops = rw (begins_run given e) at x.stops in
     let left = known_left _ _ (stops_read stops).1 in
     let all = rw (← x.stopped_is) at (stopped_of are left.1 x.reader x.notice x.writer stops x.tidied x.same) in
     (left.0, all.0, cc, all.1, all.2, outcome_succeeds _ all.2.outcome)

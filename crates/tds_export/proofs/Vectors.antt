@@ -17,15 +17,15 @@ Answer = ℕ × List ℕ × Option Fault
 abbrev answer_of : N.Charset → ℕ → ℕ → Progress Part Fault → Answer
 answer_of charset room n p = (n - length (N.rest_of p), N.text_so_far (N.state_of p), N.fault_of (response charset room) p)
 
-abbrev pub answer : N.Charset → ℕ → List ℕ → Answer
+abbrev answer : N.Charset → ℕ → List ℕ → Answer
 answer charset room payload = answer_of charset room (length payload) (read (response charset room) N.response_start payload)
 
 -- Each payload has the answer beside it.
-abbrev pub HaveAnswers : N.Charset → ℕ → List (List ℕ × Answer) → Type 0
+abbrev HaveAnswers : N.Charset → ℕ → List (List ℕ × Answer) → Type 0
 HaveAnswers charset room rows = map (λ row. answer charset room row.0) rows ≡ map (λ row. row.1) rows
 
 -- the beginnings of a list, the shortest first
-abbrev pub beginnings : List ℕ → List (List ℕ)
+abbrev beginnings : List ℕ → List (List ℕ)
 beginnings [] = [] ∷ []
 beginnings (x ∷ xs) = [] ∷ map (λ front. x ∷ front) (beginnings xs)
 
@@ -244,11 +244,7 @@ worked :
     -- a byte that begins none
     (text_row "02 00 C0 80", (23, codes "\"d\"\r\n\"", Some (BadText 0))) ∷
     -- a character in two chunks
-    (
-      (text_chunks "FE FF FF FF FF FF FF FF 01 00 00"
-          ++ hex "00 C3 01 00 00 00 A9 00 00 00 00" ++ a_done),
-      (56, hex "22 64 22 0D 0A 22 C3 A9 22 0D 0A", None),
-    ) ∷
+    ((text_chunks "FE FF FF FF FF FF FF FF 01 00 00" ++ hex "00 C3 01 00 00 00 A9 00 00 00 00" ++ a_done), (56, hex "22 64 22 0D 0A 22 C3 A9 22 0D 0A", None)) ∷
     -- a chunked value that ends within one
     (text_chunks "FE FF FF FF FF FF FF FF 01 00 00 00 C3 00 00 00 00", (34, codes "\"d\"\r\n\"", Some (BadText 0))) ∷
     -- a chunk with a byte that begins none

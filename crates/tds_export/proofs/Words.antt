@@ -21,7 +21,7 @@ pub use Rattle.std.proofs.lemmas.List.{length-replicate, length-map, map-append,
 pub use Rattle.std.proofs.lemmas.Str.{utf8_valid_len_le}
 pub use Rattle.std.specs.Int.{cast_signed, w32, cast_unsigned}
 pub use Rattle.std.specs.Io.KnownBytes.{Appends, Consumes}
-pub use Rattle.std.specs.Prelude.{◌==◌, is_ok, Some, None, ◌&&◌, not, nat_lt, if◌then◌else◌, ◌||◌, IsTrue, encode_utf8_all, ⊤, codes, ℤ, option_map, IfOk}
+pub use Rattle.std.specs.Prelude.{◌==◌, is_ok, Some, None, ◌&&◌, not, nat_lt, if◌then◌else◌, IsTrue, encode_utf8_all, ⊤, codes, ℤ, option_map, IfOk}
 pub use Rattle.std.specs.Result.{IsErrAnd}
 pub use Rattle.byteorder.specs.Endian.{little_number, little_from}
 pub use Rattle.byteorder.specs.Numbers.{little_from-lt}
@@ -41,10 +41,10 @@ pub use Rattle.tds_values.specs.TypeInfo.{kind_of, IsTypeInfo}
 pub use Rattle.tds_values.specs.declared.charset.Charset.{Charset}
 pub use Rattle.tds_values.specs.declared.charset.Charset.TheVariants.{Windows1252, Utf8}
 pub use Rattle.tds_values.specs.declared.kind.Kind.{Kind}
-pub use Rattle.tds_values.specs.declared.kind.Kind.TheVariants.{Guid, Decimal, Time, DateTime2, DateTimeOffset, Int4}
+pub use Rattle.tds_values.specs.declared.kind.Kind.TheVariants.{Guid, Time, DateTime2, DateTimeOffset, Int4}
 pub use Rattle.tds_values.specs.declared.scalar.ScalarValue.{ScalarValue}
 pub use Rattle.tds_values.specs.declared.scalar.ValueFault.{ValueFault}
-pub use Rattle.tds_packet.proofs.Choices.{choose, choose_false, eq_true, eq_false, le_true, test_le, test_lt, is_some_value, lt_true}
+pub use Rattle.tds_packet.proofs.Choices.{choose, choose_false, eq_true, eq_false, le_true, test_le, test_lt, is_some_value}
 pub use Rattle.tds_packet.proofs.ElementLaws.{Spelt-induct, feed-Spelt, feed_all-append, longest_cut, one_longest, read_longest, told, Spelt-append, Spelt-step}
 pub use Rattle.tds_packet.proofs.ElementLaws.{Spelt-none, Inside, Inside-Spelt, AreBytes-front, AreBytes-back, longest_refused, Spelt-one, some_longest}
 pub use Rattle.tds_packet.proofs.ElementLaws.{one_state, refused_for_good, no_further}

@@ -16,7 +16,7 @@ returns-in-Some-clause-gives g c =
     record { two = search rules; is = search rules; takes = search rules; at = search rules } in
     let body = take n (buffered between) in (
       body,
-      λ charset room tokens which notice.
+      λ charset room _ _ notice.
           N.Bodies.body_passed charset room notice length c.in-Some.ensures.least body (search rules)
           (Takes-more (seen remaining between) (seen remaining c.consume-in-Some.new.self) body 0 n (omega N.arith) c.consume-in-Some.ensures.gives)
           (search rules) (rw rest c.in-Some.ensures.holds),

@@ -71,7 +71,7 @@ read_so_far g c =
       writer = record { has = refl; waiting = refl; failures = refl };
       stops = rw (begins.begins, emptied.0, limit, c.new-sink.ensures.held, emptied.1, begins.place) at c.in-Err.ensures.gives;
       tidied = c.stop_at.ensures.tidied;
-      same = λ failed. ap (N.held g.W.Write.contents) (c.stop_at.ensures.failed failed);
+      same = λ failed. cc (c.stop_at.ensures.failed failed);
       stopped_is = c.stop_at.ensures.stop;
       notice = ap (λ (s : N.Space). s.bytes) c.clear.ensures.value;
     }
@@ -82,6 +82,6 @@ returns-in-Err-clause-exports g c =
     record {
       gives = grind (arith, read_so_far g c);
       tells = grind (arith, N.ToldAnswers.stop_tells (read_so_far g c));
-      failed_reads = λ e. let r = blame.0 e in grind (arith, r);
-      failed_writes = λ e. let r = blame.1 e in grind (arith, r);
+      failed_reads = λ e. grind (arith, blame.0 e);
+      failed_writes = λ e. grind (arith, blame.1 e);
     }

@@ -24,10 +24,10 @@ returns g c =
       N.rules,
       N.subst (λ (s : Space). s.peak ≤ s.room) (N.sym c.utf16_into.ensures) (N.Bodies.within_room (N.characters c.message_of.result.now) empty
           c.clear.ensures.peak),
-    )) (λ tokens begun. let none : c.args.self.now.progress.report.errors ≡ 0 = grind (N.arith, N.nat_tests, c.if-self-gt0.false) in
-    let body = c.bytes-body.ensures.value in
+    )) (λ tokens begun. let body = c.bytes-body.ensures.value in
     let error = c.error_of.ensures ∙ ap (λ l. N.server_error (N.notice_of l)) body in
     let message = c.message_of.ensures.value ∙ ap (λ l. (N.notice_of l).message) body in
-    rw error (N.Bodies.first_error_reads _ begun (c.in_ok-take_notice.ensures.gives _ _ tokens N.AnError refl) _ none empty
+    rw error (N.Bodies.first_error_reads _ begun (c.in_ok-take_notice.ensures.gives _ _ tokens N.AnError refl) _
+    (grind (N.arith, N.nat_tests, c.if-self-gt0.false)) empty
     (ap (λ (s : Space). s.room) c.clear.ensures.value ∙ c.requires.running.notice) (c.utf16_into.ensures
     ∙ ap (λ l. N.appended cleared (N.whole_within (cleared.room - N.length cleared.bytes) (N.characters l))) message)))

@@ -4,21 +4,20 @@ use N.{rules}
 use N.TokenSteps.{none_reads, step_read}
 
 pub returns-in-NoMetadata : goal.returns-in-NoMetadata
-returns-in-NoMetadata g c = step_read c.requires.running (search rules) (λ tokens begun.
-    let gives = rw c.in-NoMetadata.is at c.in_ok-gather_next.ensures.gives in
-    none_reads _ begun gives.0)
+returns-in-NoMetadata g c = step_read c.requires.running (search rules) (λ _ begun.
+    none_reads _ begun (rw c.in-NoMetadata.is at c.in_ok-gather_next.ensures.gives).0)
 
 pub returns-in_err-gather_next : goal.returns-in_err-gather_next
-returns-in_err-gather_next g c = step_read c.requires.running (search rules) (λ tokens begun. N.passed _ _ _ _ c.from_residual.ensures.1
+returns-in_err-gather_next g c = step_read c.requires.running (search rules) (λ _ begun. N.passed _ _ _ _ c.from_residual.ensures.1
     (N.TokenSteps.metadata_stops _ begun (c.in_err-gather_next.ensures.gives c.requires.running.payload.going).describing))
 
 pub view-columns-requires : goal.view-columns-requires
 view-columns-requires g c =
     let gives = rw c.in_default.is at c.in_ok-gather_next.ensures.gives in
-    N.subst N.IsDescription (N.sym c.bytes.ensures.value) (c.args.self.now.description.now.room, gives.0, gives.4)
+    rw c.bytes.ensures.value (c.args.self.now.description.now.room, gives.0, gives.4)
 
 pub returns-in_err-put_header : goal.returns-in_err-put_header
-returns-in_err-put_header g c = step_read c.requires.running (search rules) (λ tokens begun. let sink = c.requires.running.sink in
+returns-in_err-put_header g c = step_read c.requires.running (search rules) (λ _ begun. let sink = c.requires.running.sink in
     let gives = rw c.in_default.is at c.in_ok-gather_next.ensures.gives in
     let breaks = rw (c.view-columns.ensures, c.bytes.ensures.value) at (c.in_err-put_header.ensures.gives sink.writing) in
     N.passed _ _ _ _ c.from_residual-in_err-put_header.ensures.1 (N.inr (
@@ -28,6 +27,6 @@ returns-in_err-put_header g c = step_read c.requires.running (search rules) (λ 
     )))
 
 pub returns : goal.returns
-returns g c = step_read c.requires.running (search rules) (λ tokens begun. let gives = rw c.in_default.is at c.in_ok-gather_next.ensures.gives in
-    let puts = rw (c.view-columns.ensures, c.bytes.ensures.value) at c.in_ok-put_header.ensures.gives in
-    N.TokenSteps.metadata_reads _ begun (N.description_shows _ _ _ gives.4).0 gives.2 puts)
+returns g c = step_read c.requires.running (search rules) (λ _ begun. let gives = rw c.in_default.is at c.in_ok-gather_next.ensures.gives in
+    N.TokenSteps.metadata_reads _ begun (N.description_shows _ _ _ gives.4).0 gives.2
+    (rw (c.view-columns.ensures, c.bytes.ensures.value) at c.in_ok-put_header.ensures.gives))

@@ -7,12 +7,12 @@ tracks_status : {s : N.Progress} {ts : N.List N.Token} (n : N.ℕ) {status : N.�
 tracks_status n e k = grind (N.arith, N.TokenLaws.tracked)
 
 pub returns-in_err-fill : goal.returns-in_err-fill
-returns-in_err-fill g c = N.TokenSteps.step_read c.requires.running (search rules) (λ tokens begun. let four : N.length c.fill.new.to ≡ 4 = search rules in
+returns-in_err-fill g c = N.TokenSteps.step_read c.requires.running (search rules) (λ _ begun.
     N.passed _ _ _ _ c.from_residual.ensures.1 (N.TokenSteps.stops_first begun refl refl
-    (N.ResponseLaws.fill_cut refl refl four (c.in_err-fill.ensures.part c.requires.running.payload.going))))
+    (N.ResponseLaws.fill_cut refl refl (search rules) (c.in_err-fill.ensures.part c.requires.running.payload.going))))
 
 pub returns : goal.returns
-returns g c = N.TokenSteps.step_read c.requires.running (search rules) (λ tokens begun. let fields = c.fill.new.to in
+returns g c = N.TokenSteps.step_read c.requires.running (search rules) (λ _ begun. let fields = c.fill.new.to in
     let four : N.length fields ≡ 4 = search rules in
     let status = N.cast_signed N.w32 (N.cast_unsigned N.w32 c.read_i32-status.result) in
     let kept : status ≡ c.read_i32-status.result = search rules in

@@ -23,10 +23,10 @@ tokens-preserved g c = record {
   same = search rules;
   same_payload = search rules;
   same_sink = search rules;
-  room = c.in_ok-token.ensures.leaves.areas.description ∙ c.tokens.invariant.room;
-  token = c.in_ok-token.ensures.leaves.areas.token.room ∙ c.tokens.invariant.token;
-  notice = c.in_ok-token.ensures.leaves.areas.notice.room ∙ c.tokens.invariant.notice;
-  small = c.in_ok-token.ensures.leaves.areas.small.room ∙ c.tokens.invariant.small;
+  room = cc;
+  token = cc;
+  notice = cc;
+  small = cc;
   forward = omega (N.arith, c.tokens.invariant.forward, c.in_ok-token.ensures.leaves.forward);
   runs = λ tracks empty noted. let x = c.tokens.invariant.runs tracks empty noted in
       runs_on x c.tokens.invariant.same.6 c.tokens.invariant.room (rw c.if-branch.true at (c.in_ok-token.ensures.gives x.tokens x.tracks x.holds x.noted));
@@ -40,19 +40,17 @@ returns-in_err-token-clause-gives g c = λ tracks empty noted. let x = c.tokens.
 pub returns-then-not-self-clause-gives : goal.returns-then-not-self-clause-gives
 returns-then-not-self-clause-gives g c = λ tracks empty noted. let first = c.tokens.invariant.runs tracks empty noted in
     let y = rw c.if-branch.false at (c.in_ok-token.ensures.gives first.tokens first.tracks first.holds first.noted) in
-    let open_end : c.token.new.self.progress.is_final ≡ N.false = search rules in
     let sink = c.in_ok-token.ensures.leaves.running.sink in
     rw (c.in_payload.ensures, c.place-place.ensures) (N.inl (stops_end (runs_ended g.W.Write.contents first y) y.takes y.over sink.writing sink.ready.2
-    open_end))
+    (search rules)))
 
 pub returns-in_err-finish-clause-gives : goal.returns-in_err-finish-clause-gives
 returns-in_err-finish-clause-gives g c = λ tracks empty noted. let first = c.tokens.invariant.runs tracks empty noted in
     let y = rw c.if-branch.false at (c.in_ok-token.ensures.gives first.tokens first.tracks first.holds first.noted) in
-    let final : c.token.new.self.progress.is_final ≡ true = search rules in
     N.passed _ _ _ _ c.from_residual-in_err-finish.ensures.1 (N.inr (
       record {
         middle = _;
-        whole = N.RunSteps.reads_whole (runs_ended g.W.Write.contents first y) y.takes y.over final;
+        whole = N.RunSteps.reads_whole (runs_ended g.W.Write.contents first y) y.takes y.over (search rules);
         fails = c.in_err-finish.ensures.gives c.in_ok-token.ensures.leaves.running.sink.writing;
       },
       c.in_err-finish.ensures.failed,
@@ -61,9 +59,9 @@ returns-in_err-finish-clause-gives g c = λ tracks empty noted. let first = c.to
 pub returns-clause-gives : goal.returns-clause-gives
 returns-clause-gives g c = λ tracks empty noted. let first = c.tokens.invariant.runs tracks empty noted in
     let y = rw c.if-branch.false at (c.in_ok-token.ensures.gives first.tokens first.tracks first.holds first.noted) in
-    let x = runs_ended g.W.Write.contents first y in
-    let final : c.token.new.self.progress.is_final ≡ true = search rules in (
-      completes x y.takes y.over final c.in_ok-finish.ensures.gives (N.ap (λ n. record c.token.new.self.progress.report { written = n }) c.delivered.ensures),
+    let x = runs_ended g.W.Write.contents first y in (
+      completes x y.takes y.over (search rules) c.in_ok-finish.ensures.gives
+          (N.ap (λ n. record c.token.new.self.progress.report { written = n }) c.delivered.ensures),
       x.noted,
     )
 

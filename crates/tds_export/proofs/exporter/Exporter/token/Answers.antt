@@ -3,8 +3,8 @@ use N.exporter.Exporter.token.Goals as goal
 use N.{◌-◌, ◌≡◌}
 
 pub returns-in_err-byte-clause-gives : goal.returns-in_err-byte-clause-gives
-returns-in_err-byte-clause-gives g c = λ tokens tracks holds noted. let sink = c.requires.sink in
-    N.passed _ _ _ _ c.from_residual.ensures.1 (N.TokenBytes.stops_between _ _ sink.ready.2 sink.writing holds c.in_err-byte.ensures.gives.0
+returns-in_err-byte-clause-gives g c = λ _ tracks holds noted. let sink = c.requires.sink in
+    N.passed _ _ _ _ c.from_residual.ensures.1 (N.TokenSteps.stops_between _ _ sink.ready.2 sink.writing holds c.in_err-byte.ensures.gives.0
     c.in_err-byte.ensures.gives.1)
 
 -- ---- a token
@@ -12,26 +12,22 @@ returns-in_err-byte-clause-gives g c = λ tokens tracks holds noted. let sink = 
 pub returns-in_ok-body-in-Ok-clause-gives : goal.returns-in_ok-body-in-Ok-clause-gives
 returns-in_ok-body-in-Ok-clause-gives g c = λ tokens tracks holds noted. let read = rw c.in-Some.is at c.in_ok-byte.ensures.gives in
     let x = c.in_ok-body-in-Ok.ensures.reads tokens (N.TokenLaws.tracks_begun tracks) holds noted in (
-      N.TokenBytes.reads_after_byte _ (N.TokenBytes.begins_lead c.in-Ok.ensures holds.bytes c.requires.described tracks.described) c.requires.sink.ready.2
+      N.TokenSteps.reads_after_byte _ (N.TokenSteps.begins_lead c.in-Ok.ensures holds.bytes c.requires.described tracks.described) c.requires.sink.ready.2
           read.takes read.place_is x.0,
       x.1,
     )
 
 pub returns-in_err-body-in-Ok-clause-gives : goal.returns-in_err-body-in-Ok-clause-gives
 returns-in_err-body-in-Ok-clause-gives g c = λ tokens tracks holds noted. let read = rw c.in-Some.is at c.in_ok-byte.ensures.gives in
-    N.passed _ _ _ _ c.from_residual-in_err-body-in-Ok.ensures.1 (N.TokenBytes.stops_after_byte _ (N.TokenBytes.begins_lead
+    N.passed _ _ _ _ c.from_residual-in_err-body-in-Ok.ensures.1 (N.TokenSteps.stops_after_byte _ (N.TokenSteps.begins_lead
     c.in-Ok.ensures holds.bytes c.requires.described tracks.described) c.requires.sink.ready.2 read.takes read.place_is
     (c.in_err-body-in-Ok.ensures.reads tokens (N.TokenLaws.tracks_begun tracks) holds noted))
 
 -- ---- a byte that begins no token
 
 pub returns-in-Err-clause-gives : goal.returns-in-Err-clause-gives
-returns-in-Err-clause-gives g c = λ tokens tracks holds noted. let run = c.args.self.now in
+returns-in-Err-clause-gives g c = λ _ tracks holds noted. let run = c.args.self.now in
     let sink = c.requires.sink in
-    let h = N.held g.W.Write.contents run.sink.now in
     let read = rw c.in-Some.is at c.in_ok-byte.ensures.gives in
-    let at : run.payload.now.place ≡ c.place-place.result - 1 = omega (N.arith, read.place_is, c.place-place.ensures) in
-    rw c.in_payload.ensures (N.subst (λ n. N.StepStops (N.response run.charset run.description.now.room) (N.after_tokens tokens)
-    (N.seen g.R.Read.remaining run.payload.now) (N.seen g.R.Read.remaining c.next_byte.new.payload) run.payload.now.place h h
-    run.description.now run.sink.now.failed (record { fault = c.in-Err.fault; place = N.Payload n })) at
-    (N.TokenBytes.stops_at_byte _ _ sink.ready.2 sink.writing holds tracks.described c.in-Err.ensures read.takes read.between))
+    let at : c.place-place.result - 1 ≡ run.payload.now.place = omega (N.arith, read.place_is, c.place-place.ensures) in
+    rw (c.in_payload.ensures, at) (N.TokenSteps.stops_at_byte _ _ sink.ready.2 sink.writing holds tracks.described c.in-Err.ensures read.takes read.between)
