@@ -59,9 +59,8 @@ def are_shared(some: list[os.stat_result], others: list[os.stat_result]) -> bool
     return any(os.path.samestat(one, other) and not stat.S_ISCHR(one.st_mode) for one in some for other in others)
 
 
-def place_of(template: str, number: int) -> Place:
-    """The place of an output by its name, in which {} stands for a number. Raises `Stopped` if it is a descriptor that isn't open."""
-    name = template.replace("{}", str(number))
+def place_of(name: str) -> Place:
+    """The place of an output by its name. Raises `Stopped` if it is a descriptor that isn't open."""
     opened = opened_by(name)
     return Place(name, -1, os.path.realpath(name)) if opened is None else Place(name, opened)
 
@@ -88,7 +87,7 @@ class Places:
     def take(self, number: int) -> list[Place]:
         """The places of a statement: that of its rows, and that of its packets if they are kept. Raises `Stopped` if something would be lost
         or mixed, or can't be written."""
-        named = [place_of(it, number) for it in self._templates]
+        named = [place_of(it.replace("{}", str(number))) for it in self._templates]
         places = named if self._asked.output else [Place(STREAMS[STANDARD_OUTPUT], needed(STANDARD_OUTPUT)), *named]
         if number > 1 and not named:
             return places  # of which nothing has changed

@@ -389,10 +389,21 @@ class Commands(Live):
             given = cast(IO[bytes], first.stdin)
             given.write(wire("float")[:20])
             given.flush()
-            wait_for(lambda: os.path.exists(self.path("out")))
-            wait_for(lambda: self.run_command("adapt", "-o", "out", "orders.tds").stderr == b"out: another command writes there\n")
+            waiting = self.path("out.partial")
+            wait_for(lambda: os.path.exists(waiting))
+            wait_for(lambda: self.run_command("adapt", "-o", "out", "orders.tds").stderr == f"{waiting}: another command writes there\n".encode())
             given.write(wire("float")[20:])
-        self.assertEqual((first.returncode, self.text("out")), (0, adapted(wire("float"))))
+        self.assertEqual((first.returncode, self.text("out"), os.path.exists(waiting)), (0, adapted(wire("float")), False))
+
+    def test_an_output_has_its_name_when_it_is_whole(self) -> None:
+        """What is there under its name stays if it isn't, and until it is, and is kept from whom it was kept before."""
+        for data, status in ((wire("float") + wire("float")[:40], 4), (wire("float") * 2, 0)):
+            with open(self.path("out"), "wb") as file:
+                file.write(b"before")
+            os.chmod(file.name, 0o600)
+            self.assertEqual(self.run_command("adapt", "-o", "out", data=data).returncode, status)
+            self.assertTrue(self.text("out.partial" if status else "out").startswith(adapted(wire("float")) * (1 if status else 2)))
+            self.assertEqual((self.text("out") == b"before", os.stat(file.name).st_mode & 0o777), (status > 0, 0o600))
 
     def test_an_output_that_loses_its_name(self) -> None:
         """What was written there goes with the name, or nobody finds it."""
@@ -404,17 +415,18 @@ class Commands(Live):
                     given = cast(IO[bytes], run.stdin)
                     given.write(wire("float")[:20])
                     given.flush()
-                    wait_for(lambda: os.path.exists(self.path("out")))
-                    os.rename(self.path("out"), self.path("renamed"))
+                    waiting = self.path("out.partial")
+                    wait_for(lambda: os.path.exists(waiting))
+                    os.rename(waiting, self.path("renamed"))
                     if not is_kept:
                         os.remove(self.path("renamed"))
                     if is_replaced:
-                        with open(self.path("out"), "xb") as file:
+                        with open(waiting, "xb") as file:
                             file.write(b"another")
                     said = run.communicate(wire("float")[20:])[1].decode()
-                    line = "out: another file has its name now\n" if is_replaced else "out: No such file or directory\n"
+                    line = f"{waiting}: another file has its name now\n" if is_replaced else f"{self.path('out')}: No such file or directory\n"
                     self.assertEqual((run.returncode, said), (5, line))
-                    self.assertEqual(os.path.exists(self.path("out")) and self.text("out"), is_replaced and b"another")
+                    self.assertEqual((os.path.exists(self.path("out")), os.path.exists(waiting) and self.text("out.partial")), (False, is_replaced and b"another"))
                     self.setUp()
 
     def test_what_the_system_puts_off(self) -> None:
@@ -425,7 +437,7 @@ class Commands(Live):
             "    if found.endswith(name): raise OSError(errno.EDQUOT, 'Disk quota exceeded')\nos.close = closed\nmain()\n")
         self.script("put_off", f"exec {sys.executable} -c \"$SCRIPT\" \"$@\"")
         for words, name in (
-            ("/out adapt -o out float.tds", "out"), ("/out adapt float.tds > out", "standard output"), ("/out columns float.tds > out", "standard output"),
+            ("/out.partial adapt -o out float.tds", self.path("out")), ("/out adapt float.tds > out", "standard output"), ("/out columns float.tds > out", "standard output"),
             ("/out.partial query -S 127.0.0.1,$PORT -U reader -C --program \"$PROGRAM\" -o out 'SELECT * FROM orders'", self.path("out"))):
             came = self.beside((), "exec ./put_off " + words, SCRIPT=script)
             with self.subTest(words=words):
@@ -435,7 +447,8 @@ class Commands(Live):
         with open(self.path("x"), "wb") as file:
             file.write(wire("float"))
         os.link(self.path("x"), self.path("y"))
-        for words in ("-o x x", "-o y x", "-o x < x", "x >> x", "< x >> y"):
+        os.link(self.path("x"), self.path("z.partial"))
+        for words in ("-o x x", "-o y x", "-o x < x", "x >> x", "< x >> y", "-o z x"):
             came = subprocess.run(["sh", "-c", f"exec {sys.executable} -m gavyreto adapt {words}"], cwd=self.folder, capture_output=True, check=False, **started())
             with self.subTest(words=words):
                 self.assertEqual((came.returncode, came.stdout), (2, b""))

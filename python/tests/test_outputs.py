@@ -271,11 +271,9 @@ class Model:
         paths = [os.path.basename(os.path.realpath(self.folder.of(sink.name))) for sink in self.sinks if sink.name]
         waiting = {it + ".partial" for it in paths} - {*paths, *self.sources, *self.case.links}
         places = {self.objects[sink.descriptor] for sink in self.sinks if sink.descriptor in self.objects}
-        if self.case.command == "adapt":  # which writes into the file that is there
-            places |= {object_of(os.stat(self.folder.of(sink.name))) for sink in self.sinks if sink.name}
         others = {*after, *self.before} - {*paths, *waiting}
         changed = {name for name in others if after.get(name) != self.before.get(name) and not self.is_at(name, places)}
-        left = waiting & {*after} if self.case.command == "query" else set()
+        left = waiting & {*after}
         return f"{sorted(changed | left)} changed; " if changed | left else ""
 
     # What has to succeed.

@@ -6,19 +6,18 @@ else is copied byte for byte, and so is a response without such columns, with it
 pieces.
 
 The status is 0; 4 if the response ends too early or can't be followed, after everything before that point was written; 5 if a read
-or a write failed; 2 if the arguments are refused."""
+or a write failed; 2 if the arguments are refused. The file of -o gets its name when it is whole; until then it has .partial behind it."""
 from __future__ import annotations
 
 import argparse
 import os
-import stat
-from functools import partial
 
 from gavyreto.adapting import Adapter
 from gavyreto.commands.common import (
-    STANDARD_ERROR, STANDARD_OUTPUT, STREAMS, Once, Stopped, check_name, is_one_file, lock_file, named, naming, needed, open_response, opened_by, parser_of, settle, write,
+    STANDARD_ERROR, STANDARD_OUTPUT, STREAMS, Once, Stopped, is_one_file, named, needed, open_response, parser_of,
 )
-from gavyreto.program import BAD_INPUT, CHARSETS, REFUSED
+from gavyreto.places import Opened, Place, place_of
+from gavyreto.program import BAD_INPUT, CHARSETS, FAILED, REFUSED
 
 
 def arguments(words: list[str]) -> argparse.Namespace:
@@ -29,30 +28,29 @@ def arguments(words: list[str]) -> argparse.Namespace:
     return parser.parse_args(words)
 
 
+def check(place: Place, source: int) -> None:
+    """Raises `Stopped` if what is read or written elsewhere would be lost in a place, or it can't be written."""
+    for number, what in ((source, "the response is read from"), (STANDARD_ERROR, "the lines are written to"), (STANDARD_OUTPUT, "standard output is written to")):
+        if (place.path or number == source) and any(is_one_file(it, number) for it in place.names()):
+            raise Stopped(f"{place.name}: {what} it", REFUSED)
+    if not place.can_be_written():
+        raise Stopped(f"{place.name}: can't be written", FAILED)
+
+
 def adapt(asked: argparse.Namespace) -> None:
-    opened = opened_by(asked.output) if asked.output else needed(STANDARD_OUTPUT)
-    name = asked.output or STREAMS[STANDARD_OUTPUT]
+    place = place_of(asked.output) if asked.output else Place(STREAMS[STANDARD_OUTPUT], needed(STANDARD_OUTPUT))
     if not asked.output and os.isatty(STANDARD_OUTPUT):
-        raise Stopped(f"{name} is a terminal, and packets aren't text: > FILE or -o FILE takes them", REFUSED)
+        raise Stopped(f"{place.name} is a terminal, and packets aren't text: > FILE or -o FILE takes them", REFUSED)
     with open_response(asked.file) as source:
-        if asked.output and is_one_file(asked.output, source.fileno()):
-            raise Stopped(f"{name}: the response is read from it", REFUSED)
-        if asked.output and opened is None and is_one_file(asked.output, STANDARD_ERROR):
-            raise Stopped(f"{name}: the lines are written to it", REFUSED)
-        with naming(name):
-            target = os.open(asked.output, os.O_WRONLY | os.O_CREAT, 0o666) if opened is None else opened
-            is_file = opened is None and stat.S_ISREG(os.fstat(target).st_mode)
-            if is_file:
-                lock_file(name, target)
-                os.ftruncate(target, 0)
-        is_more = True
-        while is_more:
-            Adapter(source.read, partial(write, name, target), asked.charset).run()
-            is_more = bool(source.peek(1))
-        with naming(name):
-            settle(target)
-            if is_file:
-                check_name(name, target)
+        check(place, source.fileno())
+        output, is_more = Opened(place), True
+        try:
+            while is_more:
+                Adapter(source.read, output.write, asked.charset).run()
+                is_more = bool(source.peek(1))
+            output.close(True)
+        finally:
+            output.close(False)
 
 
 def run(words: list[str]) -> int:
