@@ -32,6 +32,7 @@ VERSION = re.compile(rf"({PROGRAM} \d+(?:\.\d+)*)(?: \(sources [0-9a-f]+\))?", r
 BLOCK = 1 << 18  # bytes that are moved at once, at most
 CHANGED = "it changed while it was read"
 PATIENCE = 5.0  # seconds in which a program ends whose input is over, or text comes that its lines count
+SECONDS_OF_VERSION = 60  # in which a program says its version
 BEGINNING = b"\x04"  # of a packet of an answer
 
 # Exit statuses; all but the last are those of tds_replay.
@@ -114,8 +115,11 @@ def _wrong(status: int, line: str) -> Ending:
 
 
 def version_of(program: str) -> str:
-    """What this program says of its name and version, or "" if it isn't tds_replay. Raises OSError if it can't be started."""
-    said = subprocess.run([program, "--version"], stdin=subprocess.DEVNULL, capture_output=True, check=False).stdout
+    """What this program says of its name and version, or "" if it isn't tds_replay. Raises OSError if it can't be started, or doesn't end."""
+    try:
+        said = subprocess.run([program, "--version"], stdin=subprocess.DEVNULL, capture_output=True, timeout=SECONDS_OF_VERSION).stdout
+    except subprocess.TimeoutExpired:
+        raise TimeoutError(f"{program} --version doesn't end within {SECONDS_OF_VERSION} seconds") from None
     found = VERSION.fullmatch(said.decode("utf-8", "replace").strip())
     return found[1] if found else ""
 

@@ -15,10 +15,11 @@ import tempfile
 import time
 import unittest
 from collections.abc import Callable, Iterator
+from unittest import mock
 
-from gavyreto import outcomes, tds
+from gavyreto import outcomes, program, tds
 from gavyreto.commands import many
-from gavyreto.commands.common import Stopped, folder_of_texts
+from gavyreto.commands.common import Stopped, checked_program, folder_of_texts
 from tests import test_adapt
 from tests.beside import PROGRAM, ROOT, SECONDS, answered, is_waiting, need, responses, running_in, served, skip, started, wait_for, wire
 
@@ -217,6 +218,11 @@ class Here(Many):
                 self.assertEqual((process.wait(SECONDS), process.communicate()[1].count(b"\n")), (status, 1))
                 self.assertEqual((self.runs(), os.listdir(self.path("out"))), (2, ["outcomes.csv"]))
                 os.remove(self.path("runs"))
+
+    def test_a_program_that_does_not_say_its_version(self) -> None:
+        hanging = self.script("exec sleep 1000")
+        with mock.patch.object(program, "SECONDS_OF_VERSION", 0.2), self.assertRaisesRegex(Stopped, "--version doesn't end within 0.2 seconds"):
+            checked_program(hanging)
 
     def test_what_changed_or_lost_its_text_is_done_again(self) -> None:
         names = self.store(3)
