@@ -211,10 +211,11 @@ def postgresql_type(column: Column) -> str:
 
 
 def create_table(table: str, columns: list[Column], type_of: Callable[[Column], str]) -> str:
-    """The statement that creates a table with these columns. Raises ValueError if two have one name, or one has none."""
+    """The statement that creates a table with these columns. Raises ValueError if two have one name, or one has none or a NUL character,
+    at which the shell of SQLite leaves out the rest of a line, and with it the end of the quoted name."""
     names = [column.name for column in columns]
-    if "" in names or len({name.lower() for name in names}) < len(names):
-        raise ValueError("a column without a name, or two of one name: name them in the query")
+    if "" in names or "\0" in "".join(names) or len({name.lower() for name in names}) < len(names):
+        raise ValueError("a column without a name or with a NUL character in it, or two of one name: name them in the query")
     lines = [f"    {quoted(column.name)} {type_of(column)}{'' if column.nullable else ' NOT NULL'}" for column in columns]
     return f"CREATE TABLE {table_name(table)} (\n" + ",\n".join(lines) + "\n);\n"
 
