@@ -12,7 +12,7 @@ from typing import NamedTuple, Optional
 from gavyreto import program, tds
 from gavyreto.adapting import hand_over
 from gavyreto.commands.common import cause_of
-from gavyreto.outcomes import waiting_in
+from gavyreto.outcomes import begun, texts_of, waiting_in
 from gavyreto.program import BAD_INPUT, BLOCK, CHANGED, DONE, FAILED, SERVER_ERROR, Output, OutputFailed, Program
 
 DIGITS = 16  # of the digest of a program that are kept
@@ -73,7 +73,7 @@ def _exported(file: str, waiting: str, command: list[str], adapts: Optional[str]
         if not stat.S_ISREG(found.st_mode):
             return Outcome(file, FAILED, f"cannot read {file}: no regular file")
         run, version = running(command)
-        ending, written, framing, left = _text_of(source, waiting, run, adapts)
+        ending, written, framing, left = _text_of(source, waiting, os.path.basename(file), run, adapts)
         if ending.status not in (DONE, SERVER_ERROR, BAD_INPUT):
             return Outcome(file, ending.status, ending.line)
         if stamp_of(os.fstat(source)) != stamp_of(found):
@@ -89,7 +89,7 @@ def _exported(file: str, waiting: str, command: list[str], adapts: Optional[str]
         os.close(source)
 
 
-def _text_of(source: int, waiting: str, run: Program, adapts: Optional[str]) -> tuple[program.Ending, int, tds.Framing, bool]:
+def _text_of(source: int, waiting: str, name: str, run: Program, adapts: Optional[str]) -> tuple[program.Ending, int, tds.Framing, bool]:
     """How the program ends on the response at the beginning of a file, the bytes of its text, which is on the disk, and whether the file
     goes on behind it."""
     framing = tds.Framing()
@@ -100,7 +100,7 @@ def _text_of(source: int, waiting: str, run: Program, adapts: Optional[str]) -> 
         os.lseek(source, taken - len(block), os.SEEK_CUR)
         return block[:taken]
 
-    with open(waiting, "xb") as out:
+    with begun(waiting, *texts_of(name)) as out:
         output = Output(out.fileno())
         run.begin()
         try:

@@ -8,11 +8,14 @@ import socket
 import threading
 import time
 from dataclasses import dataclass, fields
-from typing import Any, Collection, Generic, Optional, Sequence, TypeVar
+from functools import partial, reduce
+from operator import and_
+from typing import IO, Any, Collection, Generic, Optional, Sequence, TypeVar
 from unicodedata import normalize
 
 from gavyreto.commands import common
 from gavyreto.commands.common import STANDARD_ERROR, Stopped, cause_of, is_one_file, line, rename, tell, write
+from gavyreto.places import stats_of
 from gavyreto.program import BAD_INPUT, DONE, FAILED, REFUSED, SERVER_ERROR
 from gavyreto.records import record_at
 from gavyreto.values import value_of
@@ -86,13 +89,13 @@ class Table(Generic[R]):
 
     def begin(self, again: set[str], names: Collection[str]) -> None:
         """Leaves out the lines of what is to be done again, and of texts by these names, and goes on behind the others."""
-        texts = {name + end for name in names for end in (TEXT, PARTIAL)}
+        texts = {text for name in names for text in texts_of(name)}
         own = (TABLE, *texts) if is_one_file(STANDARD_ERROR, STANDARD_ERROR) else ()
         for name in own:
             if is_one_file(os.path.join(self._folder, name), STANDARD_ERROR):
                 raise Stopped(f"{name}: the lines are written to it", REFUSED)
         self.records = {key: record for key, record in self.records.items() if key not in again and record.text not in texts}
-        with open(self._path + UNFINISHED, "wb") as out:
+        with begun(self._path + UNFINISHED, TABLE, how="wb") as out:
             write(out.name, out.fileno(), self._header + b"".join(map(_line_of, self.records.values())))
         if is_one_file(out.name, os.path.join(self._folder, os.path.basename(out.name).swapcase())):
             check_apart(TABLE.removesuffix(TEXT), *names, *(os.path.basename(it) for it in self.records))
@@ -111,7 +114,7 @@ class Table(Generic[R]):
         """Gives the text that waits its name, if one does, takes away the one that was there before, and writes the line: that of a
         failure if the text can't have its name. Returns it."""
         if waiting:
-            record.text = name + (PARTIAL if record.status == BAD_INPUT else TEXT)
+            record.text = texts_of(name)[record.status == BAD_INPUT]
             try:
                 target = os.path.join(self._folder, record.text)
                 if record.text in self._there:
@@ -120,12 +123,24 @@ class Table(Generic[R]):
                     rename(waiting, target)  # what something else has put there meanwhile stays
             except OSError as failure:
                 record.status, record.line, record.text, record.written = FAILED, f"{record.text}: {cause_of(failure)}", None, 0
-        for other in self._there & {name + TEXT, name + PARTIAL} - {record.text}:
+        for other in self._there & {*texts_of(name)} - {record.text}:
             with contextlib.suppress(OSError):
                 os.remove(os.path.join(self._folder, other))
         write(self._path, self._descriptor, _line_of(record))
         self.records[record.name] = record
         return record
+
+
+def texts_of(name: str) -> tuple[str, str]:
+    """The names that the text of this may have."""
+    return name + TEXT, name + PARTIAL
+
+
+def begun(path: str, *olds: str, how: str = "xb") -> IO[bytes]:
+    """A file that will take the place of others of its folder, which may be opened by nobody from whom one of them is kept."""
+    folder = os.path.dirname(path)
+    modes = (it.st_mode for it in stats_of(*(os.path.join(folder, name) for name in olds)))
+    return open(path, how, opener=partial(os.open, mode=reduce(and_, modes, 0o666)))
 
 
 def check_apart(*names: str) -> None:

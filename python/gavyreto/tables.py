@@ -17,7 +17,7 @@ from gavyreto.commands.common import Stopped, cause_of, command_for, folder_of_t
 from gavyreto.connection import UNASKED, Session
 from gavyreto.errors import BadAnswer, CertificateRefused, ConnectionFailed, EncryptionRefused, LoginRefused
 from gavyreto.exporting import version_of
-from gavyreto.outcomes import PARTIAL, TABLE, TEXT, Progress, remove_unfinished, summed, waiting_in
+from gavyreto.outcomes import PARTIAL, TABLE, TEXT, Progress, begun, remove_unfinished, summed, texts_of, waiting_in
 from gavyreto.program import BAD_INPUT, DONE, FAILED, INTERRUPTED, REFUSED, SERVER_ERROR, Program
 
 LONGEST_STATEMENT = 100_000  # characters
@@ -109,7 +109,7 @@ class Worker:
         """The same, once, with the text that waits. Raises `Broken` if the connection breaks, or can't be made."""
         waiting, is_decided = waiting_in(self._asked.output), False
         try:
-            with open(waiting, "xb") as out:
+            with begun(waiting, *texts_of(item.name)) as out:
                 session = self._open_session()
                 ending = self._asking(session).answer(item.statement, program.Output(out.fileno()))
                 os.fsync(out.fileno())

@@ -353,6 +353,19 @@ class Here(Many):
                 with open(file.name, "rb") as left:
                     self.assertEqual(left.read(), data)
 
+    def test_who_may_read_what_is_replaced(self) -> None:
+        """Nobody reads a text, or the table, from whom the one before was kept; nor while it waits for its name."""
+        self.store(1)
+        modes = self.relaying(f"stat -c %a {self.path('out')}/* > modes")
+        self.assertEqual(self.many("--program", PROGRAM, "in", "out")[0], 0)
+        for name, mode in (("000.csv", 0o640), ("outcomes.csv", 0o600)):
+            os.chmod(self.path("out", name), mode)
+        os.rename(self.path("out", "000.csv"), self.path("out", "000.csv.partial"))
+        self.assertEqual(self.many("--program", modes, "in", "out")[0], 0)
+        self.assertEqual([os.stat(self.path("out", name)).st_mode & 0o777 for name in ("000.csv", "outcomes.csv")], [0o640, 0o600])
+        with open(self.path("modes"), encoding="ascii") as file:
+            self.assertEqual({*file.read().split()}, {"640", "600"})
+
     def test_a_foreign_file_that_comes_meanwhile(self) -> None:
         """It stays, by whatever name of a text, and the response has failed if it would have that."""
         self.store(1)

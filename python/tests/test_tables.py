@@ -244,6 +244,14 @@ class Tables(unittest.TestCase):
         self.assertEqual(self.table().keys(), statements.keys())
         self.assert_true(statements)
 
+    def test_who_may_read_what_is_replaced(self) -> None:
+        for mode in (0o644, 0o600):
+            with Server({}).listening() as port:
+                self.assertEqual(ask_port(port, "--tables", self.write(["a SELECT t3"]), "-o", self.out).returncode, 0)
+            self.assertEqual([os.stat(os.path.join(self.out, name)).st_mode & 0o777 for name in sorted(os.listdir(self.out))], [mode, mode])
+            for name in os.listdir(self.out):
+                os.chmod(os.path.join(self.out, name), 0o600)
+
     def test_a_server_that_is_gone(self) -> None:
         """The first login decides; a connection that can't be made later is one that broke."""
         with socket.create_server(("127.0.0.1", 0)) as none:

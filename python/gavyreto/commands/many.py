@@ -25,7 +25,7 @@ from typing import Any, Iterator, Optional, Union
 from gavyreto import outcomes
 from gavyreto.commands.common import STANDARD_ERROR, STREAMS, Stopped, add_options_of_program, cause_of, checked_program, command_for, folder_of_texts, named, number_in, parser_of
 from gavyreto.exporting import Outcome, Stamp, end_all, export_file, kill_all, stamp_of, version_of
-from gavyreto.outcomes import PARTIAL, TABLE, TEXT, Progress, remove_unfinished, summed
+from gavyreto.outcomes import TABLE, TEXT, Progress, remove_unfinished, summed, texts_of
 from gavyreto.places import stats_of
 from gavyreto.program import DONE, FAILED, INTERRUPTED, REFUSED, SERVER_ERROR
 
@@ -65,7 +65,7 @@ class Table(outcomes.Table[Record]):
             name = os.path.basename(file)
             if name + TEXT == TABLE:
                 raise Stopped(f"{file}: its text would have the name of the table, {TABLE}: give the file another name", REFUSED)
-            for text in (name + TEXT, name + PARTIAL):
+            for text in texts_of(name):
                 if _inodes_of(os.path.join(self._folder, text)) & inputs:
                     raise Stopped(f"{text} would be the text of {file}, and is a file to export: name another folder", REFUSED)
                 if of.get(text, file) != file and os.path.exists(os.path.join(self._folder, text)):

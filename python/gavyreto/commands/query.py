@@ -193,7 +193,7 @@ def ask_tables(asked: argparse.Namespace, password: str) -> int:
     check_input(source, "the statements are")
     for item in items:
         encoded(item.statement)
-        if any(is_one_file(os.path.join(asked.output, name), source) for name in (item.name + outcomes.TEXT, item.name + outcomes.PARTIAL)):
+        if any(is_one_file(os.path.join(asked.output, name), source) for name in outcomes.texts_of(item.name)):
             raise Stopped(f"{asked.tables} would be the text of {item.name}: name another folder", REFUSED)
     password = password or password_of(asked)
     asked.options = f"-S {asked.server.host},{asked.server.port or asked.server.instance or PORT} -d {asked.database} --charset {asked.charset}{' --adapt' if asked.adapt else ''}"
