@@ -37,6 +37,7 @@ class Record:
     line: str
     text: Optional[str]
     written: int
+    text_change: int  #: the time at which the text last changed, in nanoseconds since 1970, which nobody can set
 
 
 R = TypeVar("R", bound=Record)
@@ -121,6 +122,7 @@ class Table(Generic[R]):
                     os.replace(waiting, target)
                 else:
                     rename(waiting, target)  # what something else has put there meanwhile stays
+                record.text_change = os.stat(target).st_ctime_ns
             except OSError as failure:
                 record.status, record.line, record.text, record.written = FAILED, f"{record.text}: {cause_of(failure)}", None, 0
         for other in self._there & {*texts_of(name)} - {record.text}:

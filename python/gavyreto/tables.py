@@ -93,7 +93,7 @@ class Worker:
 
     def export(self, item: Item) -> Outcome:
         """Exports an answer. Raises what ends all of them: a login that was refused."""
-        record = Record(item.name, FAILED, "interrupted", None, 0, time.time_ns(), item.statement, self._asked.options, self._asked.version)
+        record = Record(item.name, FAILED, "interrupted", None, 0, 0, time.time_ns(), item.statement, self._asked.options, self._asked.version)
         for attempt in range(self._asked.retries + 1):
             if attempt > 1:
                 self._is_stopped.wait(min(2 ** (attempt - 2), MOST_PAUSE))

@@ -193,7 +193,7 @@ class Folder(RuleBasedStateMachine):
 
     def check(self, found: dict[str, list[str]]) -> None:
         """Each line is true, each text is there as a whole, and nothing else."""
-        assert {name: (int(line[1]), line[6]) for name, line in found.items()} == self.lines, (found, self.lines)
+        assert {name: (int(line[1]), line[7]) for name, line in found.items()} == self.lines, (found, self.lines)
         there = {}
         for name in sorted(os.listdir(self.out)):
             if name != outcomes.TABLE:

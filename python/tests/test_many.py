@@ -27,7 +27,7 @@ sys.path[:0] = [os.path.join(ROOT, "tools")]
 from lib import requirements  # noqa: E402
 
 KINDS, ERROR, FLOAT = wire("kinds", 40), wire("error"), wire("float")
-COLUMNS = 11  # of the table
+COLUMNS = 12  # of the table
 ALL = 1000  # more responses than there are
 REFUSAL = "fault 10 RefusedColumn 1 FLTN at payload 15, written 0, unwritten 0"
 
@@ -261,9 +261,16 @@ class Here(Many):
                 it.write(KINDS)
             os.utime(file, ns=(1, written))
 
+        def same_length() -> None:
+            """Other rows in the text, with its length and its time."""
+            written = os.stat(text).st_mtime_ns
+            with open(text, "r+b") as it:
+                it.write(b"x")
+            os.utime(text, ns=(1, written))
+
         changes: list[tuple[Callable[[], None], tuple[str, ...]]] = [
             (lambda: None, ("--column-room", "90000")), (lambda: None, ()), (lambda: None, ("--column-room", "100000")), (lambda: None, ()),
-            (replaced, ()), (same_time, ()), (same_inode, ()), (lambda: os.truncate(text, 20), ()),
+            (replaced, ()), (same_time, ()), (same_inode, ()), (lambda: os.truncate(text, 20), ()), (same_length, ()),
         ]
         for change, words in changes:
             change()
@@ -379,7 +386,7 @@ class Here(Many):
 
     def test_a_table_that_is_cut_or_damaged(self) -> None:
         """Of one that is cut anywhere the whole lines count; one that lacks a byte elsewhere, or has another, keeps its lines or is none."""
-        records = [many.Record(f"/in/{name}", 0, "sets 1", f"{name}.csv", 5, 1, 2, 3, 4, "--x", "p") for name in ("a", 'b"\r\nc', "d")]
+        records = [many.Record(f"/in/{name}", 0, "sets 1", f"{name}.csv", 5, 6, 1, 2, 3, 4, "--x", "p") for name in ("a", 'b"\r\nc', "d")]
         table = outcomes.Table(self.path("in"), many.Record, "file")
         lines = [table._header, *map(outcomes._line_of, records)]
         whole, ends, is_refused = b"".join(lines), [*itertools.accumulate(map(len, lines))], 0

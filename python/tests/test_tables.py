@@ -23,7 +23,7 @@ from gavyreto.connection import UNASKED, Channel
 from tests.beside import PROGRAM, SECONDS, answered, ask_port, certificate_in, command_for, context_of, log_in, log_in_encrypted, need, responses, served
 from tests.beside import started, wait_for, wire
 
-COLUMNS = 9  # of the table of outcomes
+COLUMNS = 10  # of the table of outcomes
 RETRIED = "SELECT * FROM retried"
 
 
@@ -115,7 +115,7 @@ class Tables(unittest.TestCase):
                 continue
             names.add(line[3])
             with open(os.path.join(self.out, line[3]), "rb") as file:
-                self.assertEqual((file.read(), int(line[4]), line[6]), (text, len(text), statements[name]), line)
+                self.assertEqual((file.read(), int(line[4]), line[7]), (text, len(text), statements[name]), line)
             self.assertEqual(line[3], name + (".csv.partial" if line[1] == "4" else ".csv"))
         self.assertLessEqual(set(os.listdir(self.out)), names)
 

@@ -2,9 +2,9 @@
 
 The text of FILE is FILE.csv in the folder OUT, and gets this name when it is whole; a response that is refused, or has more behind
 it, leaves FILE.csv.partial. A folder stands for the files in it. The table OUT/outcomes.csv gets a line for each response as it ends: its
-file, the status and first line of tds_replay, then its text, the bytes of the text, the size, times and inode of the file, the
-options, and the program's version and digest. A command that was stopped can be run again: it skips each response whose line and text are
-there, if file, options and program are those of the line.
+file, the status and first line of tds_replay, then its text, the bytes of that and the time of its change, the size, times and inode of
+the file, the options, and the program's version and digest. A command that was stopped can be run again: it skips each response whose
+line and text are there, if text, file, options and program are those of the line.
 
 The status is the greatest of these: 0; 3 if the server reported an error in a response; 4 if a response was refused; 5 if one
 failed and has to be tried again; 2 if the arguments are refused; 130 after Ctrl-C."""
@@ -78,13 +78,13 @@ class Table(outcomes.Table[Record]):
             return False
         try:
             text = os.stat(os.path.join(self._folder, record.text))
-            return text.st_size == record.written and stamp_of(os.stat(file)) == record.stamp()
+            return (text.st_size, text.st_ctime_ns, stamp_of(os.stat(file))) == (record.written, record.text_change, record.stamp())
         except OSError:
             return False
 
     def tell(self, it: Outcome) -> Record:
         """Gives a text its name, and writes the line."""
-        record = Record(it.file, it.status, it.line, None, it.written, *it.stamp, self._options, it.program)
+        record = Record(it.file, it.status, it.line, None, it.written, 0, *it.stamp, self._options, it.program)
         return self.add(record, os.path.basename(it.file), it.waiting)
 
 

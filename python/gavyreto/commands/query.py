@@ -10,8 +10,8 @@ certificate is verified, and everything is encrypted unless --encrypt asks for l
 
 With --tables each line of a file has a name, and behind it a statement, or a table of which all rows are read; alone it is a table.
 Tables share connections, and a statement has one of its own, since what it sets would hold for others. The answer gets the file NAME.csv in the folder of -o once it is whole, or NAME.csv.partial if it is refused, which ends nothing. The
-table outcomes.csv there gets a line for each as it ends: name, status, line, text, its bytes, when it was begun, statement, options
-and program. Begun again all are asked again. The status is the greatest of all.
+table outcomes.csv there gets a line for each as it ends: name, status, line, text, its bytes and change, when it was begun, statement,
+options and program. Begun again all are asked again. The status is the greatest of all.
 
 Standard error gets the lines of tds_replay. The status is 0; 3 if the server reported an error, refused the login, or ended an
 answer as cancelled or failed; 4 if an answer can't be read; 5 if the connection or a write failed; 2 if the arguments are
