@@ -221,13 +221,13 @@ class Workers:
 
     def _work(self, worker: Worker, following: Callable[[], Optional[Item]]) -> None:
         try:
-            while item := following():
-                self._done.put(worker.export(item))
-            worker.end()
+            with contextlib.closing(worker):
+                while item := following():
+                    self._done.put(worker.export(item))
+                worker.end()
         except BaseException as failure:
             self._done.put(failure)
         finally:
-            worker.close()
             self._done.put(None)
 
     def have_unasked(self) -> bool:

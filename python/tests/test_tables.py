@@ -17,8 +17,10 @@ import time
 import unittest
 from collections import Counter
 from collections.abc import Iterator
+from unittest import mock
 
-from gavyreto import tds
+from gavyreto import tables, tds
+from gavyreto.commands import query
 from gavyreto.connection import UNASKED, Channel
 from tests.beside import PROGRAM, SECONDS, answered, ask_port, certificate_in, command_for, context_of, log_in, log_in_encrypted, need, responses, served
 from tests.beside import started, wait_for, wire
@@ -258,6 +260,14 @@ class Tables(unittest.TestCase):
             port = none.getsockname()[1]
         came = ask_port(port, "--tables", self.write(["a", "b"]), "-o", self.out, "--retries", "3")
         self.assertEqual((came.returncode, came.stderr.count(b"\n"), os.path.exists(self.out)), (5, 1, False))
+
+    def test_a_connection_that_cannot_be_closed(self) -> None:
+        """What its thread raises ends the command, which waits for it no longer."""
+        words = command_for(1, "--tables", self.write(["a SELECT t3"]), "-o", self.out)[4:]
+        with mock.patch.dict(os.environ, SQLCMDPASSWORD="secret"), mock.patch.object(query, "session_of"), mock.patch.multiple(
+                tables.Worker, close=mock.Mock(side_effect=MemoryError), export=lambda *_: (tables.Record("a", 5, "", None, 0, 0, 0, "", "", ""), None)):
+            with self.assertRaises(MemoryError):
+                query.run(words)
 
     def test_texts_that_cannot_be_written(self) -> None:
         """Each is a line of its own, and no text is left."""
