@@ -47,8 +47,10 @@ class HeldFile:
         self._before = os.fstat(descriptor)
 
     def read(self, most: int) -> bytes:
+        """The next bytes. Raises OSError if they may be those of another response."""
         data = os.pread(self.descriptor, most, self._at)
         self._at += len(data)
+        check_unchanged(self._before, self.descriptor)
         return data
 
     def tail(self) -> bytes:

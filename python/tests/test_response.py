@@ -243,6 +243,17 @@ class Columns(unittest.TestCase):
                     self.assertRaisesRegex(OSError, "it changed while it was read", rows.fetchall)
                     self.assertRaisesRegex(gavyreto.Interrupted, "OSError", rows.fetchall)
 
+    def test_a_file_that_changes_once_it_is_read(self) -> None:
+        """The types that are asked for then aren't those of what has come there."""
+        with tempfile.NamedTemporaryFile() as file:
+            self.write_to(file.name, wire("orders"))
+            time.sleep(0.02)  # which the time of a change tells apart
+            with export(file.name) as came:
+                rows = came.only()
+                self.assertEqual(len(rows.fetchall()), 3)
+                self.write_to(file.name, wire("float"))
+                self.assertIsNone(rows.columns)
+
     def test_a_file_that_changes_while_it_is_rewritten(self) -> None:
         """What is behind its place may be of another response."""
         data = wire("orders", 100_000)
