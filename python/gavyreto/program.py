@@ -230,10 +230,11 @@ class Program(contextlib.AbstractContextManager["Program"]):
         self.close()
 
     def __del__(self) -> None:
-        self.kill()
-        self.close()
-        if self._pipe:  # where Python ends `_drop_pipe` does nothing
-            self._pipe.close()
+        if hasattr(self, "_said"):  # else an interrupt came before all of this was there
+            self.kill()
+            self.close()
+            if self._pipe:  # where Python ends `_drop_pipe` does nothing
+                self._pipe.close()
 
     def begin(self) -> None:
         """Begins a response. Raises OSError if the program can't be started."""

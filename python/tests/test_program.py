@@ -141,6 +141,16 @@ class Runs(unittest.TestCase):
         self.assertFalse(closing.is_alive())
         self.assertEqual(process.returncode, -signal.SIGKILL)
 
+    def test_an_interrupt_while_it_is_made(self) -> None:
+        """At whatever line: its end finds what there is of it, and Python has no lines to say."""
+        at, is_interrupted = 1, True
+        while is_interrupted:
+            with mock.patch.object(sys, "unraisablehook") as dropped:
+                is_interrupted = interrupted(at, lambda: Program(command()))
+            dropped.assert_not_called()
+            at += 1
+        self.assertGreater(at, 10)
+
     def test_an_interrupt_while_it_starts(self) -> None:
         """At whatever line: the next response is read by one that is started anew, or by this one."""
         at, is_interrupted = 1, True
