@@ -28,13 +28,28 @@ class Readable(Protocol):
 Source = Union[str, "os.PathLike[str]", bytes, bytearray, memoryview, int, socket.socket, Readable]
 OF_DESCRIPTORS = (int, io.FileIO, socket.socket)  # read by their descriptors; a subclass, as ssl.SSLSocket, by its own method
 Copy = Callable[[Write], bool]  # whether all packets were there
+SOME = 4096  # bytes that are compared
 Tail = Callable[[], tds.Bytes]  # the end of the payload, once all of it was read
 
 
-def check_unchanged(before: os.stat_result, descriptor: int) -> None:
-    """Raises OSError if a file was written to since; not if others follow the response."""
-    if has_changed(before, descriptor) and os.fstat(descriptor).st_size <= before.st_size:
-        raise OSError(errno.EBUSY, CHANGED)
+class Before:
+    """A file as it was where its reading began."""
+
+    def __init__(self, descriptor: int) -> None:
+        self._descriptor, self._found = descriptor, os.fstat(descriptor)
+        self._some = self._read_some()
+
+    def _read_some(self) -> list[bytes]:
+        """What is at its beginning, in its middle and at its end, from which other responses would differ."""
+        size = self._found.st_size if stat.S_ISREG(self._found.st_mode) else 0
+        places = (0, size // 2, max(size - SOME, 0)) if size else ()
+        return [os.pread(self._descriptor, min(SOME, size - place), place) for place in places]
+
+    def check(self) -> None:
+        """Raises OSError if it was written to since; not if others follow the responses that were there."""
+        if has_changed(self._found, self._descriptor) and (
+                os.fstat(self._descriptor).st_size <= self._found.st_size or self._read_some() != self._some):
+            raise OSError(errno.EBUSY, CHANGED)
 
 
 class HeldFile:
@@ -44,13 +59,13 @@ class HeldFile:
         self.descriptor = -1
         self.descriptor = os.dup(descriptor)
         self._start = self._at = os.lseek(descriptor, 0, os.SEEK_CUR)
-        self._before = os.fstat(descriptor)
+        self._before = Before(self.descriptor)
 
     def read(self, most: int) -> bytes:
         """The next bytes. Raises OSError if they may be those of another response."""
         data = os.pread(self.descriptor, most, self._at)
         self._at += len(data)
-        check_unchanged(self._before, self.descriptor)
+        self._before.check()
         return data
 
     def tail(self) -> bytes:
@@ -59,7 +74,7 @@ class HeldFile:
         while not framing.is_over and (block := os.pread(self.descriptor, BLOCK, at)):
             framing.take(block)
             at += len(block)
-        check_unchanged(self._before, self.descriptor)
+        self._before.check()
         return framing.tail
 
     def close(self) -> None:
@@ -244,11 +259,11 @@ def _reading(source: Source) -> tuple[Read, Callable[[], object]]:
         own = open(source, "rb", buffering=0)
     else:
         return _read_of(source), lambda: None
-    before = os.fstat(own.fileno())
+    before = Before(own.fileno())
 
     def close() -> None:
         with own:
-            check_unchanged(before, own.fileno())
+            before.check()
 
     return lambda most: own.read(most) or b"", close
 

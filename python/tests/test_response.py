@@ -228,7 +228,7 @@ class Columns(unittest.TestCase):
     def test_a_file_that_changes(self) -> None:
         """Its types and its end are read again: after a change they may be those of another response, which the rows aren't of; not if others
         are appended to it."""
-        for flags, data in (0, wire("orders")), (os.O_TRUNC, wire("orders")), (os.O_APPEND, wire("error")):
+        for flags, data in (0, wire("orders")), (os.O_TRUNC, wire("orders")), (os.O_TRUNC, wire("orders", 9)), (os.O_APPEND, wire("error")):
             with tempfile.NamedTemporaryFile() as file:
                 self.write_to(file.name, wire("orders"))
                 time.sleep(0.02)  # which the time of a change tells apart
