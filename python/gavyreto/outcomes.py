@@ -15,7 +15,7 @@ from unicodedata import normalize
 
 from gavyreto.commands import common
 from gavyreto.commands.common import STANDARD_ERROR, Stopped, cause_of, is_one_file, line, rename, tell, write
-from gavyreto.places import stats_of
+from gavyreto.places import mode_of
 from gavyreto.program import BAD_INPUT, DONE, FAILED, REFUSED, SERVER_ERROR
 from gavyreto.records import record_at
 from gavyreto.values import value_of
@@ -141,7 +141,7 @@ def texts_of(name: str) -> tuple[str, str]:
 def begun(path: str, *olds: str, how: str = "xb") -> IO[bytes]:
     """A file that will take the place of others of its folder, which may be opened by nobody from whom one of them is kept."""
     folder = os.path.dirname(path)
-    modes = (it.st_mode for it in stats_of(*(os.path.join(folder, name) for name in olds)))
+    modes = (mode_of(os.path.join(folder, name)) or 0o666 for name in olds)
     return open(path, how, opener=partial(os.open, mode=reduce(and_, modes, 0o666)))
 
 

@@ -17,6 +17,7 @@ from gavyreto.commands.common import (
 from gavyreto.program import FAILED, REFUSED
 
 PARTIAL = ".partial"  # behind the name of what isn't whole
+NAMED = "system.posix_acl_access"  # the list of those who are named, of Linux
 
 
 class Place(NamedTuple):
@@ -52,6 +53,19 @@ def stats_of(*names: Union[str, int]) -> list[os.stat_result]:
         with contextlib.suppress(OSError):
             found.append(os.stat(name))
     return found
+
+
+def mode_of(path: str) -> int:
+    """The mode of a file, 0 if none is there. Where others than its group are named who may open it, the mode has what these may at most,
+    which the group of another file would be allowed: it is left out."""
+    try:
+        mode = os.stat(path).st_mode
+    except OSError:
+        return 0
+    with contextlib.suppress(OSError):  # it has no such list
+        os.getxattr(path, NAMED)
+        mode &= ~stat.S_IRWXG
+    return mode
 
 
 def are_shared(some: list[os.stat_result], others: list[os.stat_result]) -> bool:
@@ -137,10 +151,7 @@ class Opened:
 
     def _opened(self) -> int:
         """The file beside; what is no regular file, as a pipe or a device, itself."""
-        try:
-            mode = os.stat(self._path).st_mode
-        except FileNotFoundError:
-            mode = 0
+        mode = mode_of(self._path)
         if mode and not stat.S_ISREG(mode):
             return os.open(self._path, os.O_WRONLY | os.O_CLOEXEC)
         self._waiting = self._path + PARTIAL

@@ -17,7 +17,7 @@ from typing import Any
 from unittest import mock
 
 import gavyreto
-from gavyreto import places, tds
+from gavyreto import outcomes, places, tds
 from gavyreto.where import OF_URL, Where
 from gavyreto.commands.query import arguments, server
 from gavyreto.connection import Channel
@@ -181,6 +181,21 @@ class Outputs(Live):
             seen.append((mode, stat.S_IMODE(os.stat(file.name).st_mode)))
         self.assertEqual(len(seen), 8)
         self.assertEqual([one for one, other in seen], [other for one, other in seen])
+
+    def test_who_is_named_beside_the_group(self) -> None:
+        """The mode of a file with such a list has what these may at most in the place of what the group may, which may nothing here."""
+        entries = ((1, 6, -1), (2, 4, 65534), (4, 0, -1), (16, 4, -1), (32, 0, -1))  # the owner, one by number, the group, the most, all others
+        with open(self.path("rows"), "wb") as file:
+            try:
+                os.setxattr(file.fileno(), "system.posix_acl_access", struct.pack("<I", 2) + b"".join(struct.pack("<HHi", *entry) for entry in entries))
+            except OSError:
+                self.skipTest("no lists of this sort are there")
+        self.assertEqual(stat.S_IMODE(os.stat(file.name).st_mode), 0o640)
+        os.link(file.name, self.path("old.csv"))
+        rows = places.Opened(places.Place("rows", -1, file.name))
+        with outcomes.begun(self.path("new"), *outcomes.texts_of("old")) as text:
+            self.assertEqual([stat.S_IMODE(os.fstat(it).st_mode) for it in (rows.descriptor, text.fileno())], [0o600, 0o600])
+        rows.close(False)
 
     def test_two_names_of_one_file(self) -> None:
         for words in ("'SELECT * FROM orders' 'SELECT * FROM sets'", "<<'END'\nSELECT * FROM orders\nGO\nSELECT * FROM sets\nEND\n"):
