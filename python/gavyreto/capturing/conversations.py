@@ -8,9 +8,9 @@ from gavyreto.capturing.accounts import Accounts
 from gavyreto.capturing.answers import Answers
 from gavyreto.capturing.desk import Desk, Sides
 from gavyreto.capturing.internet import ACK, FIN, RESET, SYN, Segment, Tags, is_single
-from gavyreto.capturing.memory import OBJECT, Memory, Share
+from gavyreto.capturing.memory import Memory, Share
 from gavyreto.capturing.messages import Requests
-from gavyreto.capturing.streams import SPACE, WINDOW, Piece, Stream
+from gavyreto.capturing.streams import SPACE, WINDOW, Piece, Pieces, Stream
 
 FARTHEST = 1 << 28  # bytes after all that is shown, that a number of the same connection may be ahead by
 
@@ -40,8 +40,7 @@ class Conversation:
         self._desk = desk
         self._is_client_seen = self._is_client_absent = False  # whether anything of it is there; whether it isn't waited for
         self._lacking = 0  # bytes of the client
-        self._waiting: list[Piece] = []  # of the server, in order and not yet taken
-        self._waiting_bytes = 0
+        self._waiting = Pieces(self.share)  # of the server, not yet taken
         self._time = self._arriving = 0  # of the last segment, and the place of its first byte
 
     # Whose segments.
@@ -181,8 +180,7 @@ class Conversation:
         for piece in pieces:
             if stream is self.server:
                 if self._waiting or self._answers.is_between() and self._waits(piece):
-                    self._waiting.append(piece)
-                    self._count(len(piece.data) + OBJECT)
+                    self._waiting.put(piece, len(self._waiting))
                 else:
                     self._take_answer(piece)
             elif not self._answers.is_over:
@@ -190,10 +188,6 @@ class Conversation:
                     if request.start == self._arriving:
                         self.client.settle(request.start)  # its client had an answer to all before it
                     self._answers.request(request)
-
-    def _count(self, size: int) -> None:
-        self._waiting_bytes += size
-        self.share.count(size)
 
     def _advance(self) -> None:
         """Takes what can be taken of the server, and gives up what is past a window."""
@@ -204,16 +198,13 @@ class Conversation:
             while stream.is_past_window():
                 self._give_up(stream)
                 self._take_answers()
-        while self._waiting_bytes > WINDOW:
+        while self._waiting.size > WINDOW:
             self._wait_no_longer()
             self._take_answers()
 
     def _take_answers(self) -> None:
-        waiting = self._waiting
-        while waiting and not (self._answers.is_between() and self._waits(waiting[0])):
-            piece = waiting.pop(0)
-            self._count(-len(piece.data) - OBJECT)
-            self._take_answer(piece)
+        while self._waiting and not (self._answers.is_between() and self._waits(self._waiting[0])):
+            self._take_answer(self._waiting.take(1)[0])
 
     def _take_answer(self, piece: Piece) -> None:
         self._answers.take(piece)

@@ -7,7 +7,7 @@ from typing import NamedTuple, Optional
 from gavyreto.capturing.conversations import FARTHEST, Conversation, Side
 from gavyreto.capturing.internet import ACK, SYN, Segment, Tags, is_single
 from gavyreto.capturing.memory import Memory, Share
-from gavyreto.capturing.streams import HALF, MARK, SPACE, Piece, Stream
+from gavyreto.capturing.streams import MARK, SPACE, Piece, Stream, ahead
 
 MOST_ENDED = 1 << 14  # whose numbers are kept
 MOST_OF_A_KEY = 4  # of the same addresses
@@ -38,23 +38,21 @@ class Ended(NamedTuple):
             return segment.sequence == own.first
         if own.place < 0 or other.place < 0:  # nothing of a side was there
             return other.place >= 0 and bool(segment.flags & ACK) and _is_near(other, segment.acknowledged, 0, FARTHEST)
-        size = len(segment.data) + segment.cut
-        ahead = 1 if self.is_over else FARTHEST
-        return _is_near(own, segment.sequence, size, ahead) and (not segment.flags & ACK or _is_near(other, segment.acknowledged, 0, ahead))
+        size, most = len(segment.data) + segment.cut, 1 if self.is_over else FARTHEST
+        return _is_near(own, segment.sequence, size, most) and (not segment.flags & ACK or _is_near(other, segment.acknowledged, 0, most))
 
     def is_new(self, is_client: bool, segment: Segment) -> bool:
         """Whether a segment shows more than is there."""
         own, other = self.sides(is_client)
         if own.place < 0 or other.place < 0:
             return own.place < 0 or not segment.flags & SYN
-        ahead = (segment.sequence + len(segment.data) + segment.cut - own.place) % SPACE
-        return 1 < ahead < HALF or bool(segment.data) and ahead == 1 or 1 < (segment.acknowledged - other.place) % SPACE < HALF
+        more = ahead(segment.sequence + len(segment.data) + segment.cut, own.place)
+        return more > 1 or bool(segment.data) and more == 1 or ahead(segment.acknowledged, other.place) > 1
 
 
-def _is_near(side: Side, sequence: int, size: int, ahead: int) -> bool:
+def _is_near(side: Side, sequence: int, size: int, most: int) -> bool:
     """Whether so many bytes from a number on are of a side: none before its SYN, and none that are farther ahead of its last one."""
-    after = (sequence - side.place) % SPACE
-    return after + size <= ahead if after < HALF else SPACE - after <= side.size + 1 and size <= SPACE - after + ahead
+    return -side.size - 1 <= ahead(sequence, side.place) <= most - size
 
 
 class Revisit:

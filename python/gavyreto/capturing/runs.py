@@ -7,7 +7,7 @@ from typing import Optional
 from gavyreto.capturing.files import Frame
 from gavyreto.capturing.frames import ETHERNET
 from gavyreto.capturing.internet import ACK, ENDS, FIN, IPV4, RESET, SYN, TCP, Segment, is_sum, sum_of_ends
-from gavyreto.capturing.streams import HALF, SPACE
+from gavyreto.capturing.streams import SPACE, ahead
 
 MOST_OF_A_RUN = 1 << 16  # bytes
 # Ethernet, IPv4 without options, TCP: type, version, length and fragment of the packet, protocol; both ends; sequence and acknowledgement
@@ -71,10 +71,10 @@ class Run:
 
     def _has(self, number: int) -> bool:
         """Whether all up to a number was there. Of what comes after its acknowledgement, another copy may be the one that was received."""
-        return (self.first.sequence + self.size - number) % SPACE < HALF
+        return ahead(self.first.sequence + self.size, number) >= 0
 
     def _acknowledge(self, number: int) -> None:
-        if (number - self._acknowledged) % SPACE < HALF:
+        if ahead(number, self._acknowledged) > 0:
             self._acknowledged = number
 
     # The same of a frame, whose headers are read at once.

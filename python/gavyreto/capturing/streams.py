@@ -37,6 +37,35 @@ class Piece(NamedTuple):
         return self.place + len(self.data)
 
 
+class Pieces(list[Piece]):
+    """Pieces in order, each of which counts in a share from its coming to its going."""
+
+    def __init__(self, share: Share) -> None:
+        super().__init__()
+        self.size = 0  #: bytes of all, with those that each costs besides
+        self._share = share
+
+    def put(self, piece: Piece, at: int) -> None:
+        """Puts a piece at a place among them."""
+        self.insert(at, piece)
+        self._count(len(piece.data) + OBJECT)
+
+    def take(self, count: int) -> list[Piece]:
+        """Takes the first ones away."""
+        taken, self[:count] = self[:count], []
+        self._count(-sum([len(piece.data) + OBJECT for piece in taken]))
+        return taken
+
+    def _count(self, size: int) -> None:
+        self.size += size
+        self._share.count(size)
+
+
+def ahead(sequence: int, other: int) -> int:
+    """How far a sequence number is ahead of another; below 0 if it is before that."""
+    return (sequence - other + HALF) % SPACE - HALF
+
+
 class Stream:
     """One side of a connection. Places count its bytes, from its first sequence number on, without an end."""
 
@@ -54,11 +83,9 @@ class Stream:
         self.differing = 0  #: bytes of copies that differ from the first
         self.early = 0  #: bytes that came again, unacknowledged, when the first copy was forgotten, or before the first that counts
         self.end: Optional[int] = None  #: its place, after a FIN
-        self.held: list[Piece] = []  #: what came before its turn, in order, none twice
-        self.held_bytes = 0
+        self.held = Pieces(share)  #: what came before its turn, none twice
+        self._sent = Pieces(share)  # handed out and not acknowledged
         self._share, self._is_firm = share, False
-        self._sent: list[Piece] = []  # handed out and not acknowledged
-        self._sent_bytes = 0
         self._single: dict[int, Piece] = {}  # single bytes before their turn, which may be none
         self._sums: dict[int, tuple[int, int]] = {}  # by the place of a piece: its length, and its checksum
 
@@ -66,8 +93,7 @@ class Stream:
 
     def place_of(self, sequence: int) -> int:
         """The place of a sequence number, the nearest to the next byte."""
-        ahead = (sequence - self.place) % SPACE
-        return self.place + (ahead if ahead < HALF else ahead - SPACE)
+        return self.place + ahead(sequence, self.place)
 
     def begin(self, sequence: int, is_late: bool, is_firm: bool = False) -> None:
         """Its first byte has this number; if that isn't firm, it may have a lower one. The places begin so high that none is
@@ -89,8 +115,8 @@ class Stream:
 
     def is_near(self, sequence: int) -> bool:
         """Whether a number is that of a byte that is there, or close after it."""
-        ahead = (sequence - self.place) % SPACE
-        return ahead < WINDOW or SPACE - ahead <= self.place - self.start
+        after = (sequence - self.place) % SPACE
+        return after < WINDOW or SPACE - after <= self.place - self.start
 
     def is_begun(self) -> bool:
         return self.place >= 0
@@ -106,8 +132,8 @@ class Stream:
             return 0
         if self.end is not None:
             return max(self.end - self.place, self.shown - 1 - self.place, 0)
-        ahead = self.shown - self.place
-        return ahead if ahead > 1 else 0
+        left = self.shown - self.place
+        return left if left > 1 else 0
 
     def show(self, place: int) -> None:
         """A frame shows that all up to a place was sent."""
@@ -126,12 +152,11 @@ class Stream:
         if place > self.acknowledged:
             self.acknowledged = place
             self.show(place)
-        if not self._sent:
-            return
         count = 0
         while count < len(self._sent) and self._sent[count].end() <= place:
             count += 1
-        self._forget(count)
+        if count:
+            self._sent.take(count)
 
     def add(self, piece: Piece) -> list[Piece]:
         """Takes a piece, and returns what is in order by it."""
@@ -171,10 +196,8 @@ class Stream:
         self.sum = zlib.crc32(piece.data, self.sum)
         if len(self.marks) < MOST_MARKS:
             self.marks += MARK.pack(self.delivered, self.sum)
-        self._sent.append(piece)
-        self._sent_bytes += len(piece.data)
-        self._share.count(len(piece.data) + OBJECT)
-        if self._sent_bytes > REMEMBERED:
+        self._sent.put(piece, len(self._sent))
+        if self._sent.size - len(self._sent) * OBJECT > REMEMBERED:
             self.shorten(2)
         return piece
 
@@ -183,15 +206,7 @@ class Stream:
         while count < len(self.held) and self.held[count].place == place:
             place = self.held[count].end()
             count += 1
-        pieces, self.held[:count] = self.held[:count], []
-        for piece in pieces:
-            self._count_held(-len(piece.data) - OBJECT)
-            self._hand_out(piece)
-        return pieces
-
-    def _count_held(self, size: int) -> None:
-        self.held_bytes += size
-        self._share.count(size)
+        return [self._hand_out(piece) for piece in self.held.take(count)]
 
     def _hold(self, piece: Piece) -> None:
         """Holds what isn't held of a piece."""
@@ -204,8 +219,7 @@ class Stream:
                 continue
             free = min(len(piece.data), following.place - piece.place) if following else len(piece.data)
             if free > 0:
-                self.held.insert(at, piece._replace(data=piece.data[:free]))
-                self._count_held(free + OBJECT)
+                self.held.put(piece._replace(data=piece.data[:free]), at)
                 at += 1
             piece = _from(piece, max(piece.place + free, following.end())) if following else piece._replace(data=b"")
 
@@ -241,23 +255,14 @@ class Stream:
     def shorten(self, share: int = 1) -> None:
         """Remembers checksums instead of what it remembers, or of the older half of it, or another share."""
         count = (len(self._sent) + share - 1) // share
-        for piece in self._sent[:count]:
+        for piece in self._sent.take(count):
             self._sums[piece.place] = len(piece.data), zlib.crc32(piece.data)
             self._share.memory.remember(self._sums, piece.place)
-        self._forget(count)
-
-    def _forget(self, count: int) -> None:
-        """Forgets the first pieces of what it remembers."""
-        if count:
-            size = sum([len(piece.data) for piece in self._sent[:count]])
-            del self._sent[:count]
-            self._sent_bytes -= size
-            self._share.count(-size - count * OBJECT)
 
     # What is lacking.
 
     def is_past_window(self) -> bool:
-        return self.held_bytes > WINDOW
+        return self.held.size > WINDOW
 
     def give_up(self) -> tuple[int, list[Piece]]:
         """Goes on after what is lacking: how much that is, and what is in order then."""
@@ -271,9 +276,8 @@ class Stream:
 
     def close(self) -> None:
         """Lets go what is held and remembered."""
-        self._count_held(-self.held_bytes)
-        self.held.clear()
-        self._forget(len(self._sent))
+        self.held.take(len(self.held))
+        self._sent.take(len(self._sent))
         self._sums.clear()
 
 
