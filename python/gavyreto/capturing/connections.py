@@ -14,7 +14,7 @@ from gavyreto.capturing.desk import Desk, Sides
 from gavyreto.capturing.endings import Ended, Endings, Revisit
 from gavyreto.capturing.files import Frame
 from gavyreto.capturing.frames import ETHERNET, segment_of
-from gavyreto.capturing.internet import ACK, FIN, RESET, SYN, Foreign, Other, Segment, Unread, address_of, is_elsewhere, port_of
+from gavyreto.capturing.internet import ACK, FIN, RESET, SYN, Foreign, Other, Segment, Unread, address_of, is_elsewhere, plain_header, port_of, segment_at
 from gavyreto.capturing.memory import Memory
 from gavyreto.capturing.messages import is_header, is_record
 from gavyreto.capturing.runs import Run, is_plain
@@ -57,15 +57,15 @@ class Connections:
         """Takes a frame."""
         accounts, run = self._accounts, self._run
         accounts.frames += 1
-        if frame.link == ETHERNET:
-            if run and run.add_frame(frame.data, frame.length):
-                accounts.in_connections += 1
-                return
-            if is_elsewhere(frame.data, frame.length, self._ports):
-                accounts.elsewhere += 1
-                return
+        plain = plain_header(frame.data, frame.length) if frame.link == ETHERNET else None
+        if plain and run and run.add_plain(frame.data, plain):
+            accounts.in_connections += 1
+            return
+        if plain and is_elsewhere(frame.data, plain, self._ports):
+            accounts.elsewhere += 1
+            return
         try:
-            segment = segment_of(frame.link, frame.data, frame.length, self._ports)
+            segment = segment_at(frame.data, plain) if plain else segment_of(frame, self._ports)
         except Other:
             accounts.elsewhere += 1
             return
@@ -90,7 +90,7 @@ class Connections:
         self.cut += segment.cut > 0
         self._end_run()
         if is_plain(segment):
-            self._run = Run(segment, is_client, frame)
+            self._run = Run(segment, is_client, frame.time, plain[0] if plain else b"")
         else:
             self._take(segment, is_client, frame.time)
 

@@ -5,6 +5,7 @@ from collections.abc import Container
 from typing import Callable
 
 from gavyreto.capturing import internet
+from gavyreto.capturing.files import Frame
 from gavyreto.capturing.internet import (
     ANY_IP, BRIDGED, BYTE, IPV4, IPV6, LEAST_ETHER_TYPE, NO_TCP, TCP, U16, U32, Cursor, Foreign, Other, Segment, Unread,
 )
@@ -22,16 +23,12 @@ MOST_LAYERS = 32  # headers of a frame, one after the other
 ETHERNET = 1  # the type of a link
 
 
-def segment_of(link: int, data: bytes, length: int, ports: Container[int]) -> Segment:
+def segment_of(frame: Frame, ports: Container[int]) -> Segment:
     """The segment in a frame, if it has one of these ports, or looks like TDS. Raises `Other`, `Foreign` or `Unread`."""
-    if link == ETHERNET:
-        segment = internet.plain(data, length, ports)
-        if segment:
-            return segment
-    following = LINKS.get(link)
+    following = LINKS.get(frame.link)
     if following is None:
-        raise Unread(f"link type {link}")
-    cursor = Cursor(data, length)
+        raise Unread(f"link type {frame.link}")
+    cursor = Cursor(frame.data, frame.length)
     for _ in range(MOST_LAYERS):
         if following == TCP:
             return internet.tcp(cursor, ports)

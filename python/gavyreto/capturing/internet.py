@@ -20,11 +20,12 @@ LEAST_ETHER_TYPE = 0x600  # below it is the length of a frame of IEEE 802.3
 VXLAN, OLD_VXLAN, GENEVE = TUNNELS = 4789, 8472, 6081  # ports of UDP
 BEGINNINGS = (b"\x01", b"\x04", b"\x12")  # of packets of TDS by which a server on another port is known
 PART = 384  # bytes of a segment that are summed as one number
-TCP_HEADER = struct.Struct(">HHIIBBHHH")
+TCP_HEADER = struct.Struct(">4sIIBBxxHxx")
 IPV4_HEADER = struct.Struct(">BBHHHBBH8s")
-PLAIN = struct.Struct(">12xHBBHHHBBH8sHHIIBBHHH")  # Ethernet, IPv4 without options, TCP
-PORTS = struct.Struct(">12xHBxHxxHxB10xHH")  # of these the type, version, length, fragment, protocol and ports
-ENDS = slice(26, 38)  # their addresses and ports
+# Ethernet, IPv4 without options, TCP: type, version, length and fragment of the packet, protocol, both ends; sequence and acknowledgement
+# number, length of the header, flags, checksum.
+PLAIN = struct.Struct(">12xHBxHxxHxBxx12sIIBBxxHxx")
+AFTER_PLAIN = 34  # where the header of TCP begins there
 U16, U32, BYTE = struct.Struct(">H"), struct.Struct(">I"), struct.Struct("B")
 
 
@@ -41,6 +42,11 @@ class Segment(NamedTuple):
     data: bytes
     cut: int  #: bytes of it that weren't captured
     is_wrong: bool  #: whether its checksum is neither its own, nor one left to the adapter: no receiver takes it
+
+
+# What the headers say of a segment: addresses and ports, sequence and acknowledgement number, length of the header, flags, checksum, and
+# where it ends.
+Header = tuple[bytes, int, int, int, int, int, int]
 
 
 def is_single(segment: Segment) -> bool:
@@ -198,49 +204,42 @@ def _tunnelled(kind: int) -> int:
 
 def tcp(cursor: Cursor, ports: Container[int]) -> Segment:
     """The segment. Raises `Other` if it has no such port, and doesn't look like TDS either."""
-    data, at = cursor.data, cursor.at
-    if at + 20 > len(data):
+    if cursor.at + TCP_HEADER.size > len(cursor.data):
         raise Unread("a frame that is too short for its headers")
-    return _segment(cursor.tags, data, at, cursor.end, cursor.addresses, TCP_HEADER.unpack_from(data, at), ports)
+    both, sequence, acknowledged, head, flags, checksum = TCP_HEADER.unpack_from(cursor.data, cursor.at)
+    header = cursor.addresses + both, sequence, acknowledged, head, flags, checksum, cursor.end
+    if is_elsewhere(cursor.data, header, ports, cursor.at):
+        raise Other
+    return segment_at(cursor.data, header, cursor.at, cursor.tags)
 
 
-def is_elsewhere(data: bytes, length: int, ports: Container[int]) -> bool:
-    """Whether a frame of Ethernet has a segment, without tags, options and tunnels, of other ports that doesn't look like TDS."""
-    if len(data) < PLAIN.size:
-        return False
-    kind, version, total, fragment, protocol, source, target = PORTS.unpack_from(data)
-    if source in ports or target in ports or kind != IPV4 or version != 0x45 or protocol != TCP or fragment & 0x3FFF:
-        return False
-    start = 34 + (data[46] >> 4) * 4
-    return 40 <= total <= length - 14 and data[start:start + 1] not in BEGINNINGS
-
-
-def plain(data: bytes, length: int, ports: Container[int]) -> Optional[Segment]:
-    """The segment in a frame of Ethernet without tags, options and tunnels; None if it isn't so."""
+def plain_header(data: bytes, length: int) -> Optional[Header]:
+    """What the headers of a frame of Ethernet say of its segment, if it has neither tags, options nor tunnels; None if it isn't so."""
     if len(data) < PLAIN.size:
         return None
-    kind, version, _, total, _, fragment, _, protocol, _, addresses, source, target, *header = PLAIN.unpack_from(data)
+    kind, version, total, fragment, protocol, ends, sequence, acknowledged, head, flags, checksum = PLAIN.unpack_from(data)
     if kind != IPV4 or version != 0x45 or protocol != TCP or fragment & 0x3FFF or not 40 <= total <= length - 14:
         return None
-    start = 34 + (header[2] >> 4) * 4
-    if source not in ports and target not in ports and data[start:start + 1] not in BEGINNINGS:
-        raise Other
-    return _segment((), data, 34, 14 + total, addresses, (source, target, *header), ports)
+    return ends, sequence, acknowledged, head, flags, checksum, 14 + total
 
 
-def _segment(tags: Tags, data: bytes, at: int, end: int, addresses: bytes, header: tuple[int, ...], ports: Container[int]) -> Segment:
-    source, target, sequence, acknowledged, head, flags, _, checksum, _ = header
+def is_elsewhere(data: bytes, header: Header, ports: Container[int], at: int = AFTER_PLAIN) -> bool:
+    """Whether the segment whose header is at a place of a frame has none of these ports, and doesn't look like TDS either."""
+    ends, start = header[0], at + (header[3] >> 4) * 4
+    is_asked = ends[-2] << 8 | ends[-1] in ports or ends[-4] << 8 | ends[-3] in ports
+    return not is_asked and data[start:start + 1] not in BEGINNINGS
+
+
+def segment_at(data: bytes, header: Header, at: int = AFTER_PLAIN, tags: Tags = ()) -> Segment:
+    """The segment whose header is at a place of a frame."""
+    ends, sequence, acknowledged, head, flags, checksum, end = header
     start = at + (head >> 4) * 4
-    is_asked = target in ports or source in ports
-    if not is_asked and data[start:start + 1] not in BEGINNINGS:
-        raise Other
     if head >> 4 < 5 or start > end:
         raise Unread("a wrong header of TCP")
-    captured = min(end, len(data))
-    is_wrong = is_asked and captured == end and not is_sum(data[at:end], sum_of_ends(addresses), checksum)
-    both, half = data[at:at + 4], len(addresses) // 2
-    ends = addresses[:half] + both[:2], addresses[half:] + both[2:]
-    return Segment(tags, *ends, sequence, acknowledged, flags, data[start:captured], end - max(captured, start), is_wrong)
+    captured, half = min(end, len(data)), len(ends) // 2 - 2
+    is_wrong = captured == end and not is_sum(data[at:end], sum_of_ends(ends[:-4]), checksum)
+    source, target = ends[:half] + ends[-4:-2], ends[half:-4] + ends[-2:]
+    return Segment(tags, source, target, sequence, acknowledged, flags, data[start:captured], end - max(captured, start), is_wrong)
 
 
 def sum_of_ends(addresses: bytes) -> int:
@@ -272,4 +271,5 @@ def address_of(end: bytes) -> tuple[str, int]:
 
 
 def port_of(end: bytes) -> int:
+    """The port that an end has last."""
     return end[-2] << 8 | end[-1]

@@ -1,18 +1,12 @@
 """Segments of one side that follow each other in a capture, and that are taken as one."""
 from __future__ import annotations
 
-import struct
 from typing import Optional
 
-from gavyreto.capturing.files import Frame
-from gavyreto.capturing.frames import ETHERNET
-from gavyreto.capturing.internet import ACK, ENDS, FIN, IPV4, RESET, SYN, TCP, Segment, is_sum, sum_of_ends
+from gavyreto.capturing.internet import ACK, AFTER_PLAIN, FIN, RESET, SYN, Header, Segment, is_sum, sum_of_ends
 from gavyreto.capturing.streams import SPACE, ahead
 
 MOST_OF_A_RUN = 1 << 16  # bytes
-# Ethernet, IPv4 without options, TCP: type, version, length and fragment of the packet, protocol; both ends; sequence and acknowledgement
-# number, length of the header, flags, checksum.
-HEAD = struct.Struct(">12xHBxHxxHxBxx12sIIBBxxH")
 
 
 def is_plain(segment: Segment) -> bool:
@@ -24,16 +18,15 @@ class Run:
     """Segments of one side that follow each other; between them the other side only acknowledges some of those that were there, of which
     the farthest is kept."""
 
-    def __init__(self, segment: Segment, is_client: bool, frame: Frame) -> None:
-        self.first, self.is_client, self.time = segment, is_client, frame.time
+    def __init__(self, segment: Segment, is_client: bool, time: int, ends: bytes) -> None:
+        self.first, self.is_client, self.time = segment, is_client, time
         self.size = len(segment.data)
         self._acknowledgement: Optional[Segment] = None
         self._acknowledged = 0  # the number of the farthest
         self._pieces = [segment.data]
-        # Both ends as frames of this side have them, if these are plain, and as those of the other.
-        self._ends = frame.data[ENDS] if frame.link == ETHERNET and not segment.tags and len(segment.source) == 6 else b""
-        self._back = self._ends[4:8] + self._ends[:4] + self._ends[10:] + self._ends[8:10]
-        self._sum = sum_of_ends(self._ends[:8])
+        self._ends = ends  # as plain frames of this side have both, and as those of the other; nothing if they aren't plain
+        self._back = ends[4:8] + ends[:4] + ends[10:] + ends[8:10]
+        self._sum = sum_of_ends(ends[:8])
 
     # Segments.
 
@@ -77,22 +70,18 @@ class Run:
         if ahead(number, self._acknowledged) > 0:
             self._acknowledged = number
 
-    # The same of a frame, whose headers are read at once.
-
-    def add_frame(self, data: bytes, length: int) -> bool:
-        """Adds the segment of a frame of Ethernet, if `add` adds it and it can be read so."""
-        if not self._ends or len(data) < HEAD.size:
-            return False
-        kind, version, total, fragment, protocol, ends, sequence, acknowledged, head, flags, checksum = HEAD.unpack_from(data)
-        start, end = 34 + (head >> 4) * 4, 14 + total
-        if kind != IPV4 or version != 0x45 or protocol != TCP or fragment & 0x3FFF or head < 0x50 or not start <= end <= min(length, len(data)):
+    def add_plain(self, data: bytes, header: Header) -> bool:
+        """Adds the segment of a plain frame, if `add` adds it."""
+        ends, sequence, acknowledged, head, flags, checksum, end = header
+        start = AFTER_PLAIN + (head >> 4) * 4
+        if head < 0x50 or not start <= end <= len(data):
             return False
         if ends == self._ends:
             adds = end - start > 1 and flags & (SYN | FIN | RESET | ACK) == ACK and self._is_next(sequence, acknowledged)
         else:
             before = self._acknowledgement
             adds = ends == self._back and start == end and flags == ACK and before is not None and before.sequence == sequence and self._has(acknowledged)
-        if not adds or not is_sum(data[34:end], self._sum, checksum):
+        if not adds or not is_sum(data[AFTER_PLAIN:end], self._sum, checksum):
             return False
         if start == end:
             self._acknowledge(acknowledged)
