@@ -2,7 +2,7 @@
 from __future__ import annotations
 
 from collections.abc import Iterable
-from typing import NamedTuple, Optional
+from typing import Optional
 
 from gavyreto.capturing.accounts import Accounts
 from gavyreto.capturing.answers import Answers
@@ -10,20 +10,9 @@ from gavyreto.capturing.desk import Desk, Sides
 from gavyreto.capturing.internet import ACK, FIN, RESET, SYN, Segment, Tags, is_single
 from gavyreto.capturing.memory import Memory, Share
 from gavyreto.capturing.messages import Requests
-from gavyreto.capturing.streams import SPACE, WINDOW, Piece, Pieces, Stream
+from gavyreto.capturing.streams import SPACE, WINDOW, Piece, Pieces, Side, Stream
 
 FARTHEST = 1 << 28  # bytes after all that is shown, that a number of the same connection may be ahead by
-
-
-class Side(NamedTuple):
-    """What is known of one side of a connection that has ended or rests: the sequence number of its SYN, the place after its last
-    byte, how many bytes that are, their checksum, and the checksums of the first of them, each after how many bytes."""
-
-    first: Optional[int]
-    place: int
-    size: int
-    sum: int
-    marks: bytes
 
 
 class Conversation:
@@ -110,9 +99,7 @@ class Conversation:
     def go_on(self, client: Side, server: Side) -> None:
         """It has been there, and goes on."""
         for stream, side in ((self.client, client), (self.server, server)):
-            stream.first = side.first
-            if side.place >= 0:
-                stream.go_on((side.place - side.size) % SPACE, side.size, side.sum, side.marks)
+            stream.go_on(side)
         if client.size > 0 and server.size > 0:
             self._answers.go_on()
 
@@ -191,16 +178,9 @@ class Conversation:
 
     def _advance(self) -> None:
         """Takes what can be taken of the server, and gives up what is past a window."""
-        if not self.share.held:
-            return
-        self._take_answers()
-        for stream in (self.client, self.server):
-            while stream.is_past_window():
-                self._give_up(stream)
-                self._take_answers()
-        while self._waiting.size > WINDOW:
-            self._wait_no_longer()
+        if self.share.held:
             self._take_answers()
+            self._let_go(WINDOW)
 
     def _take_answers(self) -> None:
         while self._waiting and not (self._answers.is_between() and self._waits(self._waiting[0])):
@@ -219,9 +199,10 @@ class Conversation:
     # What is lacking.
 
     def _give_up(self, stream: Stream) -> None:
-        start = stream.place
-        lacking, pieces = stream.give_up()
-        self._lose(stream, start, lacking, pieces[0].time if pieces else self._time)
+        """Goes on with what is held of a stream, after what is lacking."""
+        start, first = stream.place, stream.held[0]
+        lacking, pieces = stream.jump(first.place), stream.in_order()
+        self._lose(stream, start, lacking, first.time)
         self._arrived(stream, pieces)
 
     def _lose(self, stream: Stream, start: int, lacking: int, time: int) -> None:
@@ -230,9 +211,7 @@ class Conversation:
             self._requests.lose()
             self._answers.lose_of_client(start, start + lacking)
         elif lacking:
-            while self._waiting:
-                self._wait_no_longer()
-                self._take_answers()
+            self._wait_for(0)
             self._answers.lose(lacking, time)
 
     def _wait_no_longer(self) -> None:
@@ -246,19 +225,23 @@ class Conversation:
             start = stream.place
             self._lose(stream, start, stream.jump(wanted), self._time)
 
-    def let_go(self) -> None:
-        """Lets go all that it holds, which counts as lost."""
+    def _let_go(self, most: int) -> None:
+        """Holds at most so many bytes of each side before their turn: what is lacking before them counts as lost."""
         for stream in (self.client, self.server):
-            while stream.held:
+            while stream.held.size > most:
                 self._give_up(stream)
                 self._take_answers()
-        while self._waiting:
+        self._wait_for(most)
+
+    def _wait_for(self, most: int) -> None:
+        """Has at most so many bytes of the server wait."""
+        while self._waiting.size > most:
             self._wait_no_longer()
             self._take_answers()
 
     def shorten(self) -> None:
         """Holds nothing but checksums of what it has remembered."""
-        self.let_go()
+        self._let_go(0)
         self.client.shorten()
         self.server.shorten()
 
@@ -268,7 +251,7 @@ class Conversation:
         """Nothing more comes. If something is under way, the reason is told."""
         if why and not self.is_idle():
             self._desk.tell(self.sides, self._time, why)
-        self.let_go()
+        self._let_go(0)
         self._tell_lacking()
         for complaint in self._complaints():
             self._desk.tell(self.sides, self._time, complaint)
@@ -301,8 +284,7 @@ class Conversation:
 
     def ended(self) -> tuple[Side, Side]:
         """What is kept of it: its client, and its server."""
-        client, server = (Side(it.first, it.place, it.place - it.start, it.sum, it.marks) for it in (self.client, self.server))
-        return client, server
+        return self.client.side(), self.server.side()
 
 
 def _is_far(stream: Stream, sequence: int) -> bool:

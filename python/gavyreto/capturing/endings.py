@@ -4,10 +4,10 @@ from __future__ import annotations
 from collections import OrderedDict
 from typing import NamedTuple, Optional
 
-from gavyreto.capturing.conversations import FARTHEST, Conversation, Side
+from gavyreto.capturing.conversations import FARTHEST, Conversation
 from gavyreto.capturing.internet import ACK, SYN, Segment, Tags, is_single
 from gavyreto.capturing.memory import Memory, Share
-from gavyreto.capturing.streams import MARK, SPACE, Piece, Stream, ahead
+from gavyreto.capturing.streams import MARK, SPACE, WINDOW, Piece, Side, Stream, ahead
 
 MOST_ENDED = 1 << 14  # whose numbers are kept
 MOST_OF_A_KEY = 4  # of the same addresses
@@ -86,7 +86,7 @@ class Revisit:
             stream.add_single(piece) if is_single(segment) else stream.add(piece)
             stream.show(piece.end())
             stream.settle(stream.place)
-            if stream.is_past_window():
+            if stream.held.size > WINDOW:
                 self.close()
 
     def has_begun(self, is_client: bool) -> bool:

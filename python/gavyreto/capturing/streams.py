@@ -37,6 +37,17 @@ class Piece(NamedTuple):
         return self.place + len(self.data)
 
 
+class Side(NamedTuple):
+    """What is known of one side of a connection that has ended or rests: the sequence number of its SYN, the place after its last
+    byte, how many bytes that are, their checksum, and the checksums of the first of them, each after how many bytes."""
+
+    first: Optional[int]
+    place: int
+    size: int
+    sum: int
+    marks: bytes
+
+
 class Pieces(list[Piece]):
     """Pieces in order, each of which counts in a share from its coming to its going."""
 
@@ -108,10 +119,18 @@ class Stream:
         self.is_late = False
         self.show(place)
 
-    def go_on(self, sequence: int, delivered: int, checksum: int, marks: bytes) -> None:
-        """It goes on with this number after so many bytes, all of which were acknowledged."""
-        self.place = self.shown = self.acknowledged = SPACE + sequence + delivered
-        self.start, self.delivered, self.sum, self.marks, self._is_firm = self.place - delivered, delivered, checksum, marks, True
+    def side(self) -> Side:
+        """What is kept of it."""
+        return Side(self.first, self.place, self.place - self.start, self.sum, self.marks)
+
+    def go_on(self, side: Side) -> None:
+        """It was there before, and goes on: all that is kept of it was acknowledged."""
+        self.first = side.first
+        if side.place >= 0:
+            _, _, self.delivered, self.sum, self.marks = side
+            self.start = SPACE + (side.place - side.size) % SPACE
+            self.place = self.shown = self.acknowledged = self.start + side.size
+            self._is_firm = True
 
     def is_near(self, sequence: int) -> bool:
         """Whether a number is that of a byte that is there, or close after it."""
@@ -170,9 +189,9 @@ class Stream:
                 piece = _from(piece, self.place)
         if piece.data:
             self._hold(piece)
-        pieces = self._in_order()
+        pieces = self.in_order()
         while self._single and self.place in self._single:
-            pieces += [self._hand_out(self._single.pop(self.place)), *self._in_order()]
+            pieces += [self._hand_out(self._single.pop(self.place)), *self.in_order()]
         return pieces
 
     def add_single(self, piece: Piece) -> list[Piece]:
@@ -201,7 +220,8 @@ class Stream:
             self.shorten(2)
         return piece
 
-    def _in_order(self) -> list[Piece]:
+    def in_order(self) -> list[Piece]:
+        """Hands out what is held and in order."""
         count, place = 0, self.place
         while count < len(self.held) and self.held[count].place == place:
             place = self.held[count].end()
@@ -260,14 +280,6 @@ class Stream:
             self._share.memory.remember(self._sums, piece.place)
 
     # What is lacking.
-
-    def is_past_window(self) -> bool:
-        return self.held.size > WINDOW
-
-    def give_up(self) -> tuple[int, list[Piece]]:
-        """Goes on after what is lacking: how much that is, and what is in order then."""
-        lacking = self.jump(self.held[0].place)
-        return lacking, self._in_order()
 
     def jump(self, place: int) -> int:
         """Goes on at a place, of a stream that holds nothing before it: how many bytes are lacking."""
