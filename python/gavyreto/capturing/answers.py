@@ -124,11 +124,10 @@ class Answers:
     def _boundary(self, piece: Piece, data: bytes, place: int) -> Optional[int]:
         """Where in a piece an answer is known to begin: where a request says so that the server had begun to read; or, of a client
         that isn't there, where the server has read more than when it sent the piece before."""
-        asked = self.pending.first_place(place, place + len(data), piece.acknowledged)
+        asked, before = self.pending.first_place(place, place + len(data), piece.acknowledged), self._before
         if asked is not None:
             return asked - place
-        is_next = self._before is not None and self._before.end() == place == piece.place
-        has_read = is_next and self._before is not None and self._before.acknowledged < piece.acknowledged
+        has_read = before is not None and before.end() == place == piece.place and before.acknowledged < piece.acknowledged
         return 0 if has_read and not self.is_client_known and is_header(data, ANSWERS) else None
 
     def _looks_first(self, data: bytes) -> bool:
@@ -203,8 +202,11 @@ class Answers:
         kind = self._kind_of(answer)
         if not answer.packets.is_whole and not answer.why:
             answer.why = "the connection ends within it"
-        if kind in (Asked.GREETING, Asked.LOGIN) and answer.packets.is_whole and not answer.why:
-            self._end_login(answer, kind)
+        if kind in HANDSHAKE and answer.packets.is_whole and not answer.why:
+            self._greeted, self._logged_in = True, self._logged_in or kind is Asked.LOGIN
+            self._accounts.in_greetings += answer.length if kind is Asked.GREETING else 0
+            self._accounts.in_logins += answer.length if kind is Asked.LOGIN else 0
+            answer.kept.drop()
         elif kind is Asked.ATTENTION and answer.length == tds.HEADER + tds.DONE_LENGTH and tds.is_cancelled(answer.packets.tail):
             self._accounts.in_acknowledgements += answer.length
             answer.kept.drop()
@@ -212,15 +214,6 @@ class Answers:
             if kind is Asked.ATTENTION or kind is None and answer.packets.is_whole:
                 answer.request = None
             self._end_answer(answer)
-
-    def _end_login(self, answer: Answer, kind: Asked) -> None:
-        self._greeted = True
-        self._logged_in = self._logged_in or kind is Asked.LOGIN
-        if kind is Asked.GREETING:
-            self._accounts.in_greetings += answer.length
-        else:
-            self._accounts.in_logins += answer.length
-        answer.kept.drop()
 
     def _end_answer(self, answer: Answer) -> None:
         self._answered += 1

@@ -153,20 +153,9 @@ class Connections:
                 if ended and not ended.is_new(is_client, segment):
                     self._compare(key, ended, ended.sides(is_client)[0].place, is_client, segment, time)
                     return None
-                conversation = conversation or self._begin_with(key, segment, ended)
+                conversation = conversation or self._begin(key, is_client, segment, ended)
         if conversation and conversation.comes_again(is_client, segment):
             self._compare(key, conversation, conversation.streams(is_client)[0].place, is_client, segment, time)
-        return conversation
-
-    def _begin_with(self, key: bytes, segment: Segment, ended: Optional[Ended]) -> Optional[Conversation]:
-        """A connection begins, or one that rested goes on. A reset alone shows nothing of one."""
-        if segment.flags & RESET:
-            return None
-        conversation = self._begin(key, segment)
-        self._accounts.connections += ended is None
-        if ended:
-            self._endings.take(key, ended)
-            conversation.go_on(ended.client, ended.server)
         return conversation
 
     def _of_open(self, key: bytes, is_client: bool, segment: Segment) -> Optional[Conversation]:
@@ -176,18 +165,23 @@ class Connections:
             return None
         return next((it for it in found if it.tags == segment.tags), found[0])
 
-    def _begin(self, key: bytes, segment: Segment) -> Conversation:
-        conversation = Conversation(_sides_of(key), segment.tags, self._desk, self._accounts, self._memory)
+    def _begin(self, key: bytes, is_client: bool, segment: Segment, ended: Optional[Ended]) -> Optional[Conversation]:
+        """A connection begins, or one that rested goes on. A reset alone shows nothing of one."""
+        if segment.flags & RESET:
+            return None
         for before in [it for it in self._open.get(key, ()) if it.tags == segment.tags and not segment.is_wrong]:
-            before.disown(segment.source + segment.target == key, segment)  # its ports are used again
+            before.disown(is_client, segment)  # its ports are used again
             self._end(key, before)
-        others = self._open.setdefault(key, [])
-        if len(others) >= MOST_OF_A_KEY:
-            self._end(key, others[0], GIVEN_UP)
-            others = self._open.setdefault(key, [])
-        others.append(conversation)
+        if len(self._open.get(key, ())) >= MOST_OF_A_KEY:
+            self._end(key, self._open[key][0], GIVEN_UP)
+        conversation = Conversation(_sides_of(key), segment.tags, self._desk, self._accounts, self._memory)
+        self._open.setdefault(key, []).append(conversation)
         self._recent[conversation] = key
         self._make_room()
+        self._accounts.connections += ended is None
+        if ended:
+            self._endings.take(key, ended)
+            conversation.go_on(ended.client, ended.server)
         return conversation
 
     def _make_room(self) -> None:
@@ -251,4 +245,4 @@ class Connections:
 def _sides_of(key: bytes) -> Sides:
     """The names of a client and its server."""
     half = len(key) // 2
-    return Sides(*(f"{host}.{port}" for host, port in (address_of(key[:half]), address_of(key[half:]))))
+    return Sides(address_of(key[:half]), address_of(key[half:]))

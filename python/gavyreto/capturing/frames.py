@@ -112,7 +112,7 @@ def _logical_link(cursor: Cursor) -> int:
     head = cursor.slice(0, 3)
     if head[0] != SNAP or head[1] != SNAP:
         raise Other
-    kind, = cursor.unpack(U16, 6)
+    kind: int = cursor.unpack(U16, 6)[0]
     if kind < LEAST_ETHER_TYPE or cursor.slice(3, 3) != bytes(3):
         raise Other
     cursor.at += 8

@@ -6,7 +6,7 @@ from __future__ import annotations
 
 import struct
 from collections.abc import Container
-from typing import NamedTuple, Optional
+from typing import Any, NamedTuple, Optional
 
 Tags = tuple[int, ...]
 
@@ -21,7 +21,7 @@ VXLAN, OLD_VXLAN, GENEVE = TUNNELS = 4789, 8472, 6081  # ports of UDP
 BEGINNINGS = (b"\x01", b"\x04", b"\x12")  # of packets of TDS by which a server on another port is known
 PART = 384  # bytes of a segment that are summed as one number
 TCP_HEADER = struct.Struct(">4sIIBBxxHxx")
-IPV4_HEADER = struct.Struct(">BBHHHBBH8s")
+IPV4_HEADER = struct.Struct(">BxHxxHxBxx8s")
 # Ethernet, IPv4 without options, TCP: type, version, length and fragment of the packet, protocol, both ends; sequence and acknowledgement
 # number, length of the header, flags, checksum.
 PLAIN = struct.Struct(">12xHBxHxxHxBxx12sIIBBxxHxx")
@@ -75,14 +75,12 @@ class Cursor:
         self.addresses = b""  # of that packet, both
         self.tags: Tags = ()
 
-    def unpack(self, form: struct.Struct, after: int = 0) -> tuple[int, ...]:
-        """Numbers from so many bytes on. Raises Unread if they weren't captured."""
-        at = self.at + after
-        if at + form.size > len(self.data):
-            raise Unread("a frame that is too short for its headers")
-        return form.unpack_from(self.data, at)
+    def unpack(self, form: struct.Struct, after: int = 0) -> tuple[Any, ...]:
+        """What is from so many bytes on. Raises Unread if it wasn't captured."""
+        return form.unpack(self.slice(after, form.size))
 
     def slice(self, after: int, length: int) -> bytes:
+        """So many bytes from so many on. Raises Unread."""
         at = self.at + after
         if at + length > len(self.data):
             raise Unread("a frame that is too short for its headers")
@@ -100,9 +98,7 @@ def any_ip(cursor: Cursor) -> int:
 
 
 def ipv4(cursor: Cursor) -> int:
-    if cursor.at + 20 > len(cursor.data):
-        raise Unread("a frame that is too short for its headers")
-    version, _, total, _, fragment, _, protocol, _, cursor.addresses = IPV4_HEADER.unpack_from(cursor.data, cursor.at)
+    version, total, fragment, protocol, cursor.addresses = cursor.unpack(IPV4_HEADER)
     head = (version & 15) * 4
     cursor.end = cursor.at + total if total else cursor.length
     if version >> 4 != 4 or head < 20 or total and total < head or cursor.end > cursor.length:
@@ -204,9 +200,7 @@ def _tunnelled(kind: int) -> int:
 
 def tcp(cursor: Cursor, ports: Container[int]) -> Segment:
     """The segment. Raises `Other` if it has no such port, and doesn't look like TDS either."""
-    if cursor.at + TCP_HEADER.size > len(cursor.data):
-        raise Unread("a frame that is too short for its headers")
-    both, sequence, acknowledged, head, flags, checksum = TCP_HEADER.unpack_from(cursor.data, cursor.at)
+    both, sequence, acknowledged, head, flags, checksum = cursor.unpack(TCP_HEADER)
     header = cursor.addresses + both, sequence, acknowledged, head, flags, checksum, cursor.end
     if is_elsewhere(cursor.data, header, ports, cursor.at):
         raise Other
@@ -263,11 +257,11 @@ def is_sum(segment: bytes, ends: int, checksum: int) -> bool:
     return (parts + ends + length) % 0xFFFF == 0
 
 
-def address_of(end: bytes) -> tuple[str, int]:
+def address_of(end: bytes) -> str:
     """The address and the port of an end, as they are written."""
     import ipaddress  # for connections that are read alone
 
-    return str(ipaddress.ip_address(end[:-2])), int.from_bytes(end[-2:], "big")
+    return f"{ipaddress.ip_address(end[:-2])}.{port_of(end)}"
 
 
 def port_of(end: bytes) -> int:
