@@ -33,15 +33,13 @@ NAMES: dict[int, str] = {
     DataType.DATETIME4: "smalldatetime", DataType.DATETIME: "datetime", DataType.MONEY4: "smallmoney", DataType.MONEY: "money",
     DataType.FLT4: "real", DataType.FLT8: "float", DataType.GUID: "uniqueidentifier", DataType.DATE: "date", DataType.BITN: "bit",
     DataType.IMAGE: "image", DataType.TEXT: "text", DataType.NTEXT: "ntext", DataType.VARIANT: "sql_variant", DataType.XML: "xml",
+    DataType.DECIMAL: "decimal", DataType.NUMERIC: "numeric", DataType.TIME: "time", DataType.DATETIME2: "datetime2",
+    DataType.DATETIMEOFFSET: "datetimeoffset", DataType.VARBINARY: "varbinary", DataType.VARCHAR: "varchar", DataType.BINARY: "binary",
+    DataType.CHAR: "char", DataType.NVARCHAR: "nvarchar", DataType.NCHAR: "nchar",
 }
 SIZED: dict[int, dict[int, str]] = {
     DataType.INTN: {1: "tinyint", 2: "smallint", 4: "int", 8: "bigint"}, DataType.FLTN: {4: "real", 8: "float"},
     DataType.MONEYN: {4: "smallmoney", 8: "money"}, DataType.DATETIMEN: {4: "smalldatetime", 8: "datetime"},
-}
-SCALED: dict[int, str] = {DataType.TIME: "time", DataType.DATETIME2: "datetime2", DataType.DATETIMEOFFSET: "datetimeoffset"}
-LENGTHY: dict[int, str] = {
-    DataType.VARBINARY: "varbinary", DataType.VARCHAR: "varchar", DataType.BINARY: "binary", DataType.CHAR: "char",
-    DataType.NVARCHAR: "nvarchar", DataType.NCHAR: "nchar",
 }
 WHOLE, BINARY = ("tinyint", "smallint", "int", "bigint"), ("binary", "varbinary", "rowversion")
 FLOATS = ("float", "real")
@@ -63,20 +61,21 @@ class Type(NamedTuple):
 
     def sql(self) -> str:
         """As SQL writes it, for example `decimal(18,4)`. Raises ValueError for a type that no server of today sends."""
-        if self.byte in SIZED and self.length in SIZED[self.byte]:
-            return SIZED[self.byte][self.length]
-        if self.byte in (DataType.DECIMAL, DataType.NUMERIC):
-            return f"{'decimal' if self.byte == DataType.DECIMAL else 'numeric'}({self.precision},{self.scale})"
-        if self.byte in SCALED:
-            return f"{SCALED[self.byte]}({self.scale})"
-        if self.byte in LENGTHY:
-            units = (self.length or 0) // (2 if self.byte in (DataType.NVARCHAR, DataType.NCHAR) else 1)
-            return f"{LENGTHY[self.byte]}({'max' if self.length == MAX else units})"
         if self.byte == DataType.UDT:
             return self.name
-        if self.byte not in NAMES:
+        name = SIZED[self.byte].get(self.length or 0) if self.byte in SIZED else NAMES.get(self.byte)
+        if name is None:
             raise ValueError(f"no type of a column: 0x{self.byte:02x}" + (f" of {self.length} bytes" if self.byte in SIZED else ""))
-        return NAMES[self.byte]
+        if self.byte in LONG:
+            return f"{name}({'max' if self.most() is None else self.most()})"
+        digits = [str(it) for it in (self.precision, self.scale) if it is not None]
+        return f"{name}({','.join(digits)})" if digits else name
+
+    def most(self) -> Optional[int]:
+        """The most bytes of a value, or characters of nchar and nvarchar; None if there is no limit, or it is fixed."""
+        if self.byte not in LONG or self.length is None or self.length == MAX:
+            return None
+        return self.length // 2 if self.byte in (DataType.NVARCHAR, DataType.NCHAR) else self.length
 
 
 class Column(NamedTuple):
@@ -137,7 +136,7 @@ def _clr(need: Need) -> Type:
 def _counted(byte: int, info: bytes) -> Type:
     if byte in (DataType.DECIMAL, DataType.NUMERIC):
         return Type(byte, info, *info)
-    if byte in SCALED:
+    if byte in (DataType.TIME, DataType.DATETIME2, DataType.DATETIMEOFFSET):
         return Type(byte, info, scale=info[0])
     return Type(byte, info, info[0] if info else None)
 
@@ -165,11 +164,8 @@ class Described(NamedTuple):
         return self.spelt_name[1:].decode("utf-16-le", "replace")
 
     def column(self) -> Column:
-        type_, sql = self.type, "rowversion" if self.user_type == ROWVERSION and self.type.byte == DataType.BINARY else self.type.sql()
-        length = None if type_.byte not in LENGTHY or type_.length in (MAX, None) else type_.length
-        if length is not None and type_.byte in (DataType.NVARCHAR, DataType.NCHAR):
-            length //= 2
-        return Column(self.name, sql, length, type_.precision, type_.scale, bool(self.flags & NULLABLE))
+        sql = "rowversion" if self.user_type == ROWVERSION and self.type.byte == DataType.BINARY else self.type.sql()
+        return Column(self.name, sql, self.type.most(), self.type.precision, self.type.scale, bool(self.flags & NULLABLE))
 
 
 def read_description(need: Need) -> Optional[list[Described]]:

@@ -7,6 +7,7 @@ from math import isfinite
 from typing import Callable, Sequence
 from uuid import UUID
 
+from gavyreto.columns import FIXED, LONG
 from gavyreto.tds import DataType
 
 FIRST_DAY, DAY_1900 = date(1, 1, 1), date(1900, 1, 1)
@@ -127,14 +128,12 @@ TEXTS: dict[int, Callable[[bytes, int], str]] = {
 }
 # How many bytes of properties a base type of a sql_variant has, if it has some (MS-TDS, sql_variant Values).
 PROPERTIES: dict[int, int] = {
-    DataType.TIME: 1, DataType.DATETIME2: 1, DataType.DATETIMEOFFSET: 1, DataType.DECIMAL: 2, DataType.NUMERIC: 2, DataType.VARBINARY: 2,
-    DataType.BINARY: 2, DataType.VARCHAR: 7, DataType.CHAR: 7, DataType.NVARCHAR: 7, DataType.NCHAR: 7,
+    DataType.TIME: 1, DataType.DATETIME2: 1, DataType.DATETIMEOFFSET: 1, DataType.DECIMAL: 2, DataType.NUMERIC: 2, **LONG,
 }
 # How many bytes a value may have, of those without a scale.
 LENGTHS: dict[int, tuple[int, ...]] = {
-    DataType.INT1: (1,), DataType.INT2: (2,), DataType.INT4: (4,), DataType.INT8: (8,), DataType.INTN: (1, 2, 4, 8), DataType.BIT: (1,),
-    DataType.BITN: (1,), DataType.DECIMAL: (5, 9, 13, 17), DataType.NUMERIC: (5, 9, 13, 17), DataType.MONEY: (8,), DataType.MONEY4: (4,),
-    DataType.GUID: (16,), DataType.DATE: (DAYS_LENGTH,), DataType.DATETIME4: (4,), DataType.DATETIME: (8,), DataType.FLT4: (4,), DataType.FLT8: (8,),
+    **{byte: (length,) for byte, length in FIXED.items() if length}, DataType.INTN: (1, 2, 4, 8), DataType.BITN: (1,),
+    DataType.DECIMAL: (5, 9, 13, 17), DataType.NUMERIC: (5, 9, 13, 17), DataType.GUID: (16,), DataType.DATE: (DAYS_LENGTH,),
 }
 BESIDE_TIME: dict[int, int] = {DataType.TIME: 0, DataType.DATETIME2: DAYS_LENGTH, DataType.DATETIMEOFFSET: DAYS_LENGTH + OFFSET_LENGTH}
 
@@ -146,22 +145,16 @@ def check_variant(base: int, properties: bytes, length: int) -> None:
         raise ValueError(f"no base type of a sql_variant: 0x{base:02x}")
     if len(properties) != PROPERTIES.get(base, 0):
         raise ValueError(f"a sql_variant of the type 0x{base:02x} with {len(properties)} bytes of properties")
-    if not _is_described(base, properties) or not _is_length(base, properties, length):
+    if not _is_value(base, properties, length):
         raise ValueError(f"a sql_variant of the type 0x{base:02x}, the properties {properties.hex()} and {length} bytes")
 
 
-def _is_described(base: int, properties: bytes) -> bool:
-    """Whether scale and precision are in their ranges."""
+def _is_value(base: int, properties: bytes, length: int) -> bool:
+    """Whether scale and precision are in their ranges, and a value may have so many bytes."""
     if base in BESIDE_TIME:
-        return properties[0] < len(TIME_LENGTHS)
-    if base in (DataType.DECIMAL, DataType.NUMERIC):
-        return 1 <= properties[0] <= GREATEST_PRECISION and properties[1] <= properties[0]
-    return True
-
-
-def _is_length(base: int, properties: bytes, length: int) -> bool:
-    if base in BESIDE_TIME:
-        return length == TIME_LENGTHS[properties[0]] + BESIDE_TIME[base]
+        return properties[0] < len(TIME_LENGTHS) and length == TIME_LENGTHS[properties[0]] + BESIDE_TIME[base]
+    if base in (DataType.DECIMAL, DataType.NUMERIC) and not max(1, properties[1]) <= properties[0] <= GREATEST_PRECISION:
+        return False
     if base in LENGTHS:
         return length in LENGTHS[base]
     is_whole = length % 2 == 0 or base not in (DataType.NVARCHAR, DataType.NCHAR)
