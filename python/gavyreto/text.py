@@ -280,11 +280,11 @@ class ResultSet(Single):
     the rows before it are left for other calls, as for iteration. It is read from the same text as the set after it: asking for the next
     set passes over the rows left here, and asking for them after that raises `PassedOver`."""
 
-    def __init__(self, sets: Sets, place: int, names: list[str], is_only: bool) -> None:
+    def __init__(self, sets: Sets, place: int, names: list[str]) -> None:
         self.names = names  #: of the columns, as the server gave them: some may be "" or equal
         self.arraysize = 1  #: how many rows `fetchmany` gives without a number
         self._row = row_type(tuple(names))
-        self._sets, self._place, self._is_only = sets, place, is_only
+        self._sets, self._place = sets, place
         self._described: Optional[list[Column]] = None  # once the set is left
         self._values: Columns = []  # of the buffer
         self._places: list[Any] = []  # an iterator for each column of it, all of them at the place
@@ -425,18 +425,17 @@ class ResultSet(Single):
         if length_hint(self._first):
             return _file_of(self._next()[place])
         self._check_passed_over()
-        field = None if self._is_over else self._sets._open_row(place, self._is_only)
+        field: Union[None, Held, OpenField] = None if self._is_over else self._sets._in_set(lambda: self._sets._parser.open_row(place))
         if field is None:
             self._is_over = True
             raise StopIteration
         if isinstance(field, Held):
             self._sets._close_row(place, iter(()))
-        self._before += 1
-        if isinstance(field, Held):
+            self._before += 1
             return _file_of(field.value)
+        self._before += 1
         self._sets._is_within = True
-        kind: type[Union[ValueFile, TextFile]] = ValueFile if field.shape is BINARY else TextFile
-        return kind(self._sets, place, field)
+        return ValueFile(self._sets, place, field) if field.shape is BINARY else TextFile(self._sets, place, field)
 
     def _check_passed_over(self) -> None:
         if self._is_passed_over:
@@ -456,7 +455,7 @@ class ResultSet(Single):
 
     def _extend(self) -> None:
         """Puts more rows into the buffer, in the place of those that were handed out."""
-        more = self._sets._next_rows(self._is_only)
+        more = self._sets._next_rows()
         if more is None:
             self._is_over = True
             return
@@ -495,7 +494,7 @@ class ResultSet(Single):
         """Passes over the rows that are left."""
         handed_out, left = self._handed_out(), length_hint(self._first)
         while not self._is_over:
-            more = self._sets._next_rows(self._is_only)
+            more = self._sets._next_rows()
             self._is_over = more is None
             left += len(more[0]) if more else 0
         self._before, self._is_passed_over = handed_out, left > 0
@@ -558,7 +557,6 @@ class Sets(Single):
     def only(self) -> ResultSet:
         """The one set that is there. Raises NotOneSet: at once if there is none, after the last row if another set
         follows."""
-        self._is_only = True
         try:
             return self._guarded(lambda: self._next_set(True))
         except StopIteration:
@@ -603,28 +601,28 @@ class Sets(Single):
         self._check_closed()
         if self._current:
             self._current._leave()
+        self._is_only = is_only
         names = self._step(self._parser.next_header)
         if names is None:
             self._end()
             raise StopIteration
         self._rows_before = self.rows
-        self._current = ResultSet(self, self.sets, names, is_only)
+        self._current = ResultSet(self, self.sets, names)
         self.sets += 1
         return self._current
 
-    def _next_rows(self, is_only: bool) -> Optional[Columns]:
-        self._check_closed()
-        columns = self._step(self._parser.next_rows)
-        if columns is None:
-            self._end_set(is_only)
-        return columns
+    def _next_rows(self) -> Optional[Columns]:
+        return self._in_set(self._parser.next_rows)
 
-    def _open_row(self, place: int, is_only: bool) -> Union[None, Held, OpenField]:
+    def _in_set(self, step: Callable[[], T]) -> T:
+        """What a step of the parser gives of the rows of a set; None after them: then the text is over, or another set follows."""
         self._check_closed()
-        field = self._step(lambda: self._parser.open_row(place))
-        if field is None:
-            self._end_set(is_only)
-        return field
+        found = self._step(step)
+        if found is None and self._parser.is_over:
+            self._end()
+        elif found is None and self._is_only:
+            self._raise(NotOneSet(SEVERAL))
+        return found
 
     def _close_row(self, place: int, pieces: Iterator[object]) -> None:
         """Passes over what is left of a value, and of its row. Where the reading was ended, nothing is left."""
@@ -632,13 +630,6 @@ class Sets(Single):
             self._step(lambda: [None for _ in pieces])
             self._step(lambda: self._parser.close_row(place))
             self._is_within = False
-
-    def _end_set(self, is_only: bool) -> None:
-        """A set is over: so is the text, or another set follows."""
-        if self._parser.is_over:
-            self._end()
-        elif is_only:
-            self._raise(NotOneSet(SEVERAL))
 
     def _step(self, step: Callable[[], T]) -> T:
         """What a step of the parser gives."""
