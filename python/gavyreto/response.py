@@ -87,11 +87,7 @@ class HeldFile:
 
 
 class ReadFailed(Exception):
-    """What the method of a source raised that reads from it: nothing is read from that any more."""
-
-    def __init__(self, failure: Exception) -> None:
-        super().__init__(failure)
-        self.failure = failure
+    """What the method of a source raised that reads from it, as its argument: nothing is read from that any more."""
 
 
 class Feeding:
@@ -110,7 +106,7 @@ class Feeding:
         except BrokenPipeError:
             is_whole = True  # the program needs no more
         except ReadFailed as failed:
-            self.error = failed.failure
+            self.error = failed.args[0]
         except BaseException as error:
             self.error = error
         finally:
@@ -212,7 +208,7 @@ def export(
     check_dates(dates)
     command = command_of(program, packet_size, column_room, max_wire, charset)
     if adapt:
-        return _adapted(source, command, dates, charset)
+        return _fed(source, command, dates, charset)
     if isinstance(source, (str, os.PathLike)):
         with open(source, "rb", buffering=0) as file:
             return _of_descriptor(file.fileno(), command, dates)
@@ -220,7 +216,7 @@ def export(
         return _of_bytes(bytes(source), command, dates)
     if type(source) in OF_DESCRIPTORS:
         return _of_descriptor(_descriptor_of(source), command, dates)
-    return _fed(_reading(source), command, dates)
+    return _fed(source, command, dates)
 
 
 def _of_bytes(data: bytes, command: list[str], dates: Dates) -> Response:
@@ -232,21 +228,6 @@ def _of_bytes(data: bytes, command: list[str], dates: Dates) -> Response:
         return framing.is_over
 
     return Response(Program(command), dates, LateDescriptions(io.BytesIO(data).read), copy=copy, tail=lambda: framing.tail)
-
-
-def _adapted(source: Source, command: list[str], dates: Dates, charset: str) -> Response:
-    """A response of any source, which is read here, and rewritten for the program."""
-    read, close = _reading(source)
-    found, adapters = Descriptions(), list[Adapter]()
-
-    def copy(write: Write) -> bool:
-        adapters.append(Adapter(read, write, charset, found.add))
-        try:
-            return adapt_all(adapters[0], found)
-        finally:
-            close()
-
-    return Response(Program(command), dates, found, copy=copy, tail=lambda: adapters[0].tail, adapts=True)
 
 
 def _reading(source: Source) -> tuple[Read, Callable[[], object]]:
@@ -285,25 +266,24 @@ def _of_descriptor(descriptor: int, command: list[str], dates: Dates) -> Respons
     """A response in a file, which the program reads, and which is read here again for its descriptions and its end; or one
     that comes by a pipe or a socket."""
     if not stat.S_ISREG(os.fstat(descriptor).st_mode):
-        return _fed(_reading(descriptor), command, dates)
+        return _fed(descriptor, command, dates)
     held = HeldFile(descriptor)
     return Response(Program(command, held.descriptor), dates, LateDescriptions(held.read), tail=held.tail, held=held)
 
 
-def _fed(reading: tuple[Read, Callable[[], object]], command: list[str], dates: Dates) -> Response:
-    """A response whose packets are read here, and handed to the program."""
-    read, close = reading
-    found, tails = Descriptions(), list[Callable[[], bytes]]()
+def _fed(source: Source, command: list[str], dates: Dates, adapts: Optional[str] = None) -> Response:
+    """A response of any source, whose packets are read here, and handed to the program, rewritten if a character set is given for that."""
+    read, close = _reading(source)
+    found, walked = Descriptions(), list[Union[Payload, Adapter]]()
 
     def copy(write: Write) -> bool:
-        payload = Payload(read, write)
-        tails.append(lambda: payload.tail)
+        walked.append(Payload(read, write) if adapts is None else Adapter(read, write, adapts, found.add))
         try:
-            return found.watch(payload)
+            return found.watch(walked[0]) if isinstance(walked[0], Payload) else adapt_all(walked[0], found)
         finally:
             close()
 
-    return Response(Program(command), dates, found, copy=copy, tail=lambda: tails[0]())
+    return Response(Program(command), dates, found, copy=copy, tail=lambda: walked[0].tail, adapts=adapts is not None)
 
 
 def _descriptor_of(source: Any) -> int:
