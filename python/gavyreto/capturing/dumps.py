@@ -10,7 +10,7 @@ from gavyreto import tds
 from gavyreto.capturing.accounts import Accounts
 from gavyreto.capturing.answers import Answers
 from gavyreto.capturing.desk import Desk, Sides
-from gavyreto.capturing.files import Source
+from gavyreto.capturing.files import BLOCK, Source
 from gavyreto.capturing.messages import Asked, Requests, is_record
 from gavyreto.capturing.streams import Piece
 from gavyreto.tds import PacketType
@@ -18,7 +18,6 @@ from gavyreto.tds import PacketType
 # The whole line: before the file and line of the client's source there may be a time, and numbers of a process and a thread.
 HEAD = re.compile(rb"(?:\d\d:\d\d:\d\d\.\d{1,6} )?(?:\d+ )*\(?[a-z0-9_]+\.c:\d+\)?:(Sending|Received) packet\r?$")
 DUMPED = re.compile(rb"([0-9a-f]{4,8}) ((?:[0-9a-f]{2}[ -]){1,16})")
-BLOCK = 1 << 16
 
 
 class Dumped(NamedTuple):
@@ -151,10 +150,7 @@ def take_recorded(source: Source, desk: Desk, accounts: Accounts) -> None:
     """Takes all that a server sent on one connection."""
     accounts.connections += 1
     answers, place = Answers(Sides(), desk, accounts), 0
-    while True:
-        data = source.read(BLOCK)
-        if not data:
-            break
+    while data := source.read(BLOCK):
         answers.take(Piece(place, data, 0, 0))
         place += len(data)
     answers.finish()

@@ -74,17 +74,15 @@ class Source:
 
     def lines(self) -> Iterator[bytes]:
         """The lines, each at most as long as a line of a dump may be; a longer one comes in several."""
-        rest = b""
-        while True:
-            block = self.read(1 << 16)
+        rest, block = b"", b"-"
+        while block:
+            block = self.read(BLOCK)
             pieces = (rest + block).split(b"\n")
             rest = pieces.pop()
             yield from pieces
-            if not block or len(rest) > 1 << 16:
+            if not block or len(rest) > BLOCK:
                 yield rest
                 rest = b""
-            if not block:
-                return
 
 
 def source_of(file: IO[bytes]) -> Source:
@@ -143,21 +141,17 @@ def _pcap(source: Source) -> Iterator[Frame]:
     link = struct.unpack_from(order + "I", head, 20)[0] & 0xFFFF  # the bits above tell of check sequences
     unpack, nanoseconds = struct.Struct(order + "IIII").unpack_from, units // 10**6
     block, at = b"", 0
-    while True:
-        end = at + 16
-        if end <= len(block):
+    while more := source.more():
+        block, at = block[at:] + more, 0
+        while at + 16 <= len(block):
             seconds, parts, captured, length = unpack(block, at)
             if captured > MOST_OF_A_FRAME:
                 raise CutShort(f"the capture goes on with what is no frame: {captured} bytes")
-            end += captured
-            if end <= len(block):
-                yield Frame(seconds * 10**6 + parts // nanoseconds, link, block[at + 16:end], length if length > captured else captured)
-                at = end
-                continue
-        more = source.more()
-        if not more:
-            break
-        block, at = block[at:] + more, 0
+            end = at + 16 + captured
+            if end > len(block):
+                break
+            yield Frame(seconds * 10**6 + parts // nanoseconds, link, block[at + 16:end], length if length > captured else captured)
+            at = end
     if at < len(block):
         raise CutShort("the capture ends within a frame" if at + 16 <= len(block) else "the capture ends within a frame's header")
 
@@ -173,10 +167,7 @@ class _Interface(NamedTuple):
 
 def _pcapng(source: Source, drops: Drops) -> Iterator[Frame]:
     order, interfaces = "<", list[_Interface]()
-    while True:
-        head = source.read(8)
-        if not head:
-            return
+    while head := source.read(8):
         if len(head) < 8:
             raise CutShort("the capture ends within a block's header")
         if head[:4] == PCAPNG:
@@ -244,17 +235,12 @@ def _interface(order: str, body: bytes) -> _Interface:
 
 
 def _frame(order: str, kind: int, body: bytes, interfaces: list[_Interface]) -> Frame:
+    """The frame of a block. Raises struct.error or IndexError if it is none."""
     if kind == SIMPLE_PACKET:
         length, = struct.unpack_from(order + "I", body)
         captured = min(length, interfaces[0].most or length)
-        return Frame(0, interfaces[0].link, _whole(body[4:4 + captured], captured), length)
+        return Frame(0, interfaces[0].link, struct.unpack_from(f"{captured}s", body, 4)[0], length)
     number, high, low, captured, length = struct.unpack_from(order + ("IIIII" if kind == PACKET else "HxxIIII"), body)
     interface = interfaces[number]
     time = interface.offset * 10**6 + (high << 32 | low) * 10**6 // interface.units
-    return Frame(time, interface.link, _whole(body[20:20 + captured], captured), max(length, captured))
-
-
-def _whole(data: bytes, captured: int) -> bytes:
-    if len(data) < captured:
-        raise IndexError
-    return data
+    return Frame(time, interface.link, struct.unpack_from(f"{captured}s", body, 20)[0], max(length, captured))
