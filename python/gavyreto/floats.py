@@ -71,9 +71,8 @@ def spelt(size: int, values: Sequence[float]) -> list[bytes]:
 
 def is_planned(described: list[Described], changes: list[bool]) -> bool:
     """Whether rows can be converted here: floats change, and no other columns, and there is a short way over these."""
-    others = [column for column, changed in zip(described, changes) if column.type.byte not in FLOATS]
-    stays = not any(changed for column, changed in zip(described, changes) if column.type.byte not in FLOATS)
-    return any(changes) and stays and NO_WAY not in ways_over(others)
+    others = [(column, changed) for column, changed in zip(described, changes) if column.type.byte not in FLOATS]
+    return any(changes) and not any(changed for _, changed in others) and NO_WAY not in ways_over([column for column, _ in others])
 
 
 def plan_of(described: list[Described]) -> Plan:

@@ -10,8 +10,8 @@ from gavyreto.values import Value
 KINDS = {
     "tinyint": "UInt8", "smallint": "Int16", "int": "Int32", "bigint": "Int64", "bit": "UInt8", "char": "string", "nchar": "string",
     "varchar": "string", "nvarchar": "string", "text": "string", "ntext": "string", "xml": "string", "sql_variant": "string",
+    "float": "float64", "real": "float32",
 }
-FLOATS = {"float": "float64", "real": "float32"}
 MOMENTS = ("date", "smalldatetime", "datetime", "datetime2")
 GREATEST = 2**63 - 1  # of a whole number of pandas
 
@@ -21,7 +21,8 @@ class Gathered:
 
     def __init__(self, column: Optional[Column], is_dated: bool) -> None:
         kind = column.kind if column else ""
-        self._kind = KINDS.get(kind, "") if kind not in FLOATS else FLOATS[kind]
+        self._kind = KINDS.get(kind, "")
+        self._is_whole, self._is_float = "Int" in self._kind, "float" in self._kind
         self._is_known = column is not None
         self._is_moment = is_dated and kind in MOMENTS
         self._parts: list[Any] = []
@@ -31,9 +32,9 @@ class Gathered:
     def add(self, values: list[Value]) -> None:
         import numpy
 
-        if self._kind in FLOATS.values():
+        if self._is_float:
             self._parts.append(numpy.array(values, dtype="float64"))  # None becomes NaN, which no float of a server is
-        elif self._kind in KINDS.values() and self._kind != "string":
+        elif self._is_whole:
             self._parts.append(_whole_numbers(values, self._kind))
         else:
             self._parts.append(_objects(values))
@@ -53,9 +54,9 @@ class Gathered:
         import numpy
         import pandas
 
-        if self._kind in KINDS.values() and self._kind != "string":
+        if self._is_whole:
             return pandas.concat([pandas.Series(part) for part in self._parts], ignore_index=True) if self._parts else pandas.Series([], dtype=self._kind)
-        whole = numpy.concatenate(self._parts) if self._parts else numpy.array([], dtype="float64" if self._kind in FLOATS.values() else object)
+        whole = numpy.concatenate(self._parts) if self._parts else numpy.array([], dtype="float64" if self._is_float else object)
         self._parts = [whole]
         if self._is_moment:
             return _moments(pandas, whole)

@@ -306,8 +306,7 @@ class LateDescriptions(Descriptions):
     def of(self, place: int) -> Optional[list[Column]]:
         try:
             while self._count <= place:
-                self._found[self._count] = [column.column() for column in next(self._walk)]
-                self._count += 1
+                self.add([column.column() for column in next(self._walk)])
         except (StopIteration, ValueError, Ended, OSError) as failure:
             check_own(failure)
             return None

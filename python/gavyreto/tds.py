@@ -175,25 +175,25 @@ _FIXED = 94  # bytes of a LOGIN7 before its texts
 def login(asked: Login, process: int, ticket: bytes = b"", token: Optional[bytes] = None, echoes: bool = False) -> bytes:
     """A LOGIN7 of version 7.4: with a ticket, by which the login is integrated, or a token and whether that was required. Raises ValueError
     if a text is too long, or no Unicode."""
-    table, data = bytearray(_FIXED - 36), b""
+    fixed, data = bytearray(_FIXED), b""
     for place, name, text in zip(PLACES, asked._fields, asked):
         units = _checked_units(name, str(text))
         if len(units) > 2 * MOST_UNITS:
             raise ValueError(f"the {name} has more than {MOST_UNITS} characters")
-        struct.pack_into("<HH", table, place - 36, _FIXED + len(data), len(units) // 2)
+        struct.pack_into("<HH", fixed, place, _FIXED + len(data), len(units) // 2)
         data += _disguised(units) if name == "password" else units
     for place in (56, 78, 82, 86):  # texts that aren't there
-        struct.pack_into("<HH", table, place - 36, _FIXED + len(data), 0)
+        struct.pack_into("<HH", fixed, place, _FIXED + len(data), 0)
     if ticket:
-        struct.pack_into("<H", table, 80 - 36, min(len(ticket), 0xFFFF))
-        struct.pack_into("<I", table, 90 - 36, len(ticket) if len(ticket) >= 0xFFFF else 0)
+        struct.pack_into("<H", fixed, 80, min(len(ticket), 0xFFFF))
+        struct.pack_into("<I", fixed, 90, len(ticket) if len(ticket) >= 0xFFFF else 0)
         data += ticket
     if token is not None:
-        struct.pack_into("<HH", table, 56 - 36, _FIXED + len(data), 4)
+        struct.pack_into("<HH", fixed, 56, _FIXED + len(data), 4)
         data += struct.pack("<I", _FIXED + len(data) + 4) + _feature_of(token, echoes)
-    fixed = struct.pack("<I4sIIII", _FIXED + len(data), VERSION[::-1], asked.packet_size, 0, process, 0)
-    flags = struct.pack("<BBBBiI", 0xE0, 0x83 if ticket else 0x03, 0, 0 if token is None else 0x10, 0, 0x0409)
-    return fixed + flags + bytes(table) + data
+    struct.pack_into("<I4sIIII", fixed, 0, _FIXED + len(data), VERSION[::-1], asked.packet_size, 0, process, 0)
+    struct.pack_into("<BBBBiI", fixed, 24, 0xE0, 0x83 if ticket else 0x03, 0, 0 if token is None else 0x10, 0, 0x0409)
+    return bytes(fixed) + data
 
 
 def _feature_of(token: bytes, echoes: bool) -> bytes:
