@@ -20,82 +20,56 @@ class Run:
 
     def __init__(self, segment: Segment, is_client: bool, time: int, ends: bytes) -> None:
         self.first, self.is_client, self.time = segment, is_client, time
-        self.size = len(segment.data)
-        self._acknowledgement: Optional[Segment] = None
-        self._acknowledged = 0  # the number of the farthest
-        self._pieces = [segment.data]
+        self._size, self._pieces = len(segment.data), [segment.data]
+        self._farthest: Optional[tuple[int, int]] = None  # both numbers of what the other side acknowledges
         self._ends = ends  # as plain frames of this side have both, and as those of the other; nothing if they aren't plain
         self._back = ends[4:8] + ends[:4] + ends[10:] + ends[8:10]
         self._sum = sum_of_ends(ends[:8])
 
-    # Segments.
-
     def add(self, segment: Segment) -> bool:
-        """Adds the next segment, if it is the next, or only acknowledges."""
-        first = self.first
-        if not segment.data:
-            return self._add_acknowledgement(segment)
-        goes_on = (
-            self._is_next(segment.sequence, segment.acknowledged) and segment.source == first.source and segment.target == first.target
-            and segment.tags == first.tags and is_plain(segment))
+        """Adds a segment, if it is the next, or only acknowledges."""
+        first, ends = self.first, (segment.source, segment.target)
+        is_own = ends == (first.source, first.target)
+        if segment.tags != first.tags or segment.cut or segment.is_wrong or not is_own and ends != (first.target, first.source):
+            return False
+        goes_on = self._goes_on(is_own, segment.sequence, segment.acknowledged, segment.flags, len(segment.data))
         if goes_on:
-            self._append(segment.data)
+            self._take(segment.sequence, segment.acknowledged, segment.data)
         return goes_on
-
-    def _is_next(self, sequence: int, acknowledged: int) -> bool:
-        first = self.first
-        return sequence == (first.sequence + self.size) % SPACE and acknowledged == first.acknowledged and self.size < MOST_OF_A_RUN
-
-    def _append(self, data: bytes) -> None:
-        self._pieces.append(data)
-        self.size += len(data)
-
-    def _add_acknowledgement(self, segment: Segment) -> bool:
-        first, before = self.first, self._acknowledgement
-        goes_on = (
-            segment.flags == ACK and segment.source == first.target and segment.target == first.source and segment.tags == first.tags
-            and not segment.cut and not segment.is_wrong and (before is None or before.sequence == segment.sequence)
-            and self._has(segment.acknowledged))
-        if goes_on and before is None:
-            self._acknowledgement, self._acknowledged = segment, segment.acknowledged
-        elif goes_on:
-            self._acknowledge(segment.acknowledged)
-        return goes_on
-
-    def _has(self, number: int) -> bool:
-        """Whether all up to a number was there. Of what comes after its acknowledgement, another copy may be the one that was received."""
-        return ahead(self.first.sequence + self.size, number) >= 0
-
-    def _acknowledge(self, number: int) -> None:
-        if ahead(number, self._acknowledged) > 0:
-            self._acknowledged = number
 
     def add_plain(self, data: bytes, header: Header) -> bool:
-        """Adds the segment of a plain frame, if `add` adds it."""
+        """The same of the segment of a plain frame."""
         ends, sequence, acknowledged, head, flags, checksum, end = header
-        start = AFTER_PLAIN + (head >> 4) * 4
-        if head < 0x50 or not start <= end <= len(data):
+        start, is_own = AFTER_PLAIN + (head >> 4) * 4, ends == self._ends
+        if head < 0x50 or not start <= end <= len(data) or not is_own and ends != self._back:
             return False
-        if ends == self._ends:
-            adds = end - start > 1 and flags & (SYN | FIN | RESET | ACK) == ACK and self._is_next(sequence, acknowledged)
-        else:
-            before = self._acknowledgement
-            adds = ends == self._back and start == end and flags == ACK and before is not None and before.sequence == sequence and self._has(acknowledged)
-        if not adds or not is_sum(data[AFTER_PLAIN:end], self._sum, checksum):
-            return False
-        if start == end:
-            self._acknowledge(acknowledged)
-        else:
-            self._append(data[start:end])
-        return True
+        goes_on = self._goes_on(is_own, sequence, acknowledged, flags, end - start) and is_sum(data[AFTER_PLAIN:end], self._sum, checksum)
+        if goes_on:
+            self._take(sequence, acknowledged, data[start:end])
+        return goes_on
 
-    # What they come to.
+    def _goes_on(self, is_own: bool, sequence: int, acknowledged: int, flags: int, size: int) -> bool:
+        """Whether a segment is the next, or one of the other side that acknowledges what was there: of what comes after its acknowledgement,
+        another copy may be the one that was received."""
+        first, after = self.first, self.first.sequence + self._size
+        if is_own:
+            is_next = sequence == after % SPACE and acknowledged == first.acknowledged and self._size < MOST_OF_A_RUN
+            return is_next and size > 1 and flags & (SYN | FIN | RESET | ACK) == ACK
+        is_like = self._farthest is None or self._farthest[0] == sequence
+        return is_like and not size and flags == ACK and ahead(after, acknowledged) >= 0
+
+    def _take(self, sequence: int, acknowledged: int, data: bytes) -> None:
+        if data:
+            self._pieces.append(data)
+            self._size += len(data)
+        elif self._farthest is None or ahead(acknowledged, self._farthest[1]) > 0:
+            self._farthest = sequence, acknowledged
 
     def segment(self) -> Segment:
-        """All of them as one."""
+        """All segments of the side as one."""
         return self.first._replace(data=b"".join(self._pieces)) if len(self._pieces) > 1 else self.first
 
     def acknowledgement(self) -> Optional[Segment]:
         """The farthest of the other side."""
-        found = self._acknowledgement
-        return found and found._replace(acknowledged=self._acknowledged)
+        first = self.first
+        return self._farthest and Segment(first.tags, first.target, first.source, *self._farthest, ACK, b"", 0, False)
