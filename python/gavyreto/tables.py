@@ -13,7 +13,7 @@ from typing import Callable, Generator, Iterable, NamedTuple, Optional, Union
 
 from gavyreto import outcomes, program
 from gavyreto.asking import Asking, Broken
-from gavyreto.commands.common import Stopped, cause_of, command_for, folder_of_texts, tell
+from gavyreto.commands.common import Stopped, cause_of, command_for, ending_of, folder_of_texts, tell
 from gavyreto.connection import UNASKED, Session
 from gavyreto.errors import BadAnswer, CertificateRefused, ConnectionFailed, EncryptionRefused, LoginRefused
 from gavyreto.exporting import version_of
@@ -120,8 +120,6 @@ class Worker:
                 session.end()  # what it set would hold for what is asked next, as SET ROWCOUNT
             elif session.is_ready():
                 session.expect_nothing()
-        except BadAnswer as wrong:
-            record.status, record.line = BAD_INPUT, str(wrong)
         except program.OutputFailed as failed:
             record.line = f"{self._asked.output}: {cause_of(failed.failure)}"
         except OSError as failure:
@@ -129,8 +127,8 @@ class Worker:
             record.status, record.line = FAILED, f"{failure.filename or self._asked.output}: {cause_of(failure)}"
         except Broken:
             raise
-        except Stopped as stopped:
-            record.status, record.line = stopped.status, str(stopped)
+        except (BadAnswer, Stopped) as ended:
+            record.line, record.status = ending_of(ended)
         finally:
             if self._session and not (is_decided and self._session.is_ready()):
                 self._session.close()
