@@ -38,14 +38,10 @@ class Conversation:
         """Whether a segment has numbers that no segment of this connection has: before its beginning, or far after all that it
         shows. A SYN has to be the same."""
         stream, other = self.streams(is_client)
+        is_other = _is_far(stream, segment.sequence)
         if segment.flags & SYN and stream.is_begun():
-            if stream.first is not None and stream.first != segment.sequence:
-                return True
-            if stream.first is None and not _may_begin(stream, (segment.sequence + 1) % SPACE):
-                return True
-        elif stream.is_begun() and _is_far(stream, segment.sequence):
-            return True
-        return bool(segment.flags & ACK) and other.is_begun() and _is_far(other, segment.acknowledged)
+            is_other = segment.sequence != stream.first if stream.first is not None else not _may_begin(stream, (segment.sequence + 1) % SPACE)
+        return is_other or bool(segment.flags & ACK) and _is_far(other, segment.acknowledged)
 
     def is_far_ahead(self, is_client: bool, segment: Segment) -> bool:
         """Whether a segment has numbers far after all that is shown of this connection."""
@@ -291,7 +287,7 @@ def _is_far(stream: Stream, sequence: int) -> bool:
     """Whether a number is before the beginning of a stream, or far after all that is shown of it. A number less than that of the first
     byte asks whether the other side is there; of a stream whose beginning isn't there, earlier bytes may come."""
     place = stream.place_of(sequence)
-    return place < stream.start - (WINDOW if stream.is_late else 1) or place > stream.shown + FARTHEST
+    return stream.is_begun() and not stream.start - (WINDOW if stream.is_late else 1) <= place <= stream.shown + FARTHEST
 
 
 def _is_ahead(stream: Stream, sequence: int) -> bool:

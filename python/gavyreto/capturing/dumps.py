@@ -118,16 +118,12 @@ class Dump:
                 connections[channel].finish()
             connections[channel] = connections.pop(0)
         elif not channel and not new and not packet.is_received and packet.data[0] != PacketType.PRELOGIN and connections:
-            return self._only(packet)
+            if len(connections) > 1:
+                raise Mixed(f"line {packet.line}: a packet without a SPID, and {len(connections)} connections")
+            return next(iter(connections.values()))
         if channel not in connections:
             connections[channel] = _Connection(self._desk, self._accounts)
         return connections[channel]
-
-    def _only(self, packet: Dumped) -> _Connection:
-        """The one connection that a packet without a SPID can be of."""
-        if len(self._connections) > 1:
-            raise Mixed(f"line {packet.line}: a packet without a SPID, and {len(self._connections)} connections")
-        return next(iter(self._connections.values()))
 
     def finish(self) -> None:
         """Nothing more comes."""

@@ -119,10 +119,10 @@ class Endings:
     def add(self, key: bytes, conversation: Conversation) -> None:
         """A connection has ended, or rests."""
         ended = Ended(conversation.tags, *conversation.ended(), conversation.is_over())
-        before = self._ended.pop(key, ())
-        for it in before[:-MOST_OF_A_KEY + 1 or None] if len(before) >= MOST_OF_A_KEY else ():
+        of_key = (*self._ended.pop(key, ()), ended)
+        for it in of_key[:-MOST_OF_A_KEY]:
             self._remember(key, it)
-        self._ended[key] = (*before[-MOST_OF_A_KEY + 1:], ended)
+        self._ended[key] = of_key[-MOST_OF_A_KEY:]
         if len(self._ended) > MOST_ENDED:
             oldest, all_of_it = self._ended.popitem(last=False)
             for it in all_of_it:

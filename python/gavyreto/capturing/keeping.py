@@ -5,8 +5,6 @@ from __future__ import annotations
 
 import contextlib
 import os
-from collections.abc import Iterable
-from functools import partial
 from typing import Optional
 
 from gavyreto import tds
@@ -59,12 +57,9 @@ class Room(contextlib.AbstractContextManager["Room"]):
         is_free, self.is_free = self.is_free, False
         return Run(self._coming, self.next_path()) if is_free else None
 
-    def export(self, packets: Iterable[bytes], is_whole: bool) -> tuple[Ending, str]:
-        """How the program ends on an answer that is there, and the file of its text."""
-        run = Run(self._there, self.next_path())
-        for data in packets:
-            run.write(data)
-        return run.end(is_whole)
+    def run(self) -> Run:
+        """The program on an answer that is there."""
+        return Run(self._there, self.next_path())
 
 
 class Kept:
@@ -124,13 +119,13 @@ class Kept:
 
     def export(self, is_whole: bool) -> tuple[Ending, str]:
         """How the program ends on it, and the file of its text."""
-        if self._run:
-            self._run.write(bytes(self._data))
-            return self._run.end(is_whole)
-        if not self._path:
-            return self._room.export([bytes(self._data)], is_whole)
-        with open(self.file(), "rb") as file:
-            return self._room.export(iter(partial(file.read, BLOCK), b""), is_whole)
+        run = self._run or self._room.run()
+        if self._path:
+            with open(self._path, "rb") as file:
+                while block := file.read(BLOCK):
+                    run.write(block)
+        run.write(bytes(self._data))
+        return run.end(is_whole)
 
     def _forget(self) -> None:
         self._room.used -= len(self._data)

@@ -234,14 +234,13 @@ class Stream:
         self._compare(piece, self.held)
         while piece.data:
             following = self.held[at] if at < len(self.held) else None
-            if following and following.end() <= piece.place:
-                at += 1
-                continue
-            free = min(len(piece.data), following.place - piece.place) if following else len(piece.data)
-            if free > 0:
-                self.held.put(piece._replace(data=piece.data[:free]), at)
-                at += 1
-            piece = _from(piece, max(piece.place + free, following.end())) if following else piece._replace(data=b"")
+            if following is None or piece.place < following.place:
+                free = piece._replace(data=piece.data[:following.place - piece.place]) if following else piece
+                self.held.put(free, at)
+                piece = _from(piece, free.end())
+            else:
+                piece = _from(piece, following.end())
+            at += 1
 
     # Copies.
 
