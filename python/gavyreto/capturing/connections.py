@@ -5,7 +5,7 @@ tunnels only choose where the numbers are right for several, so that a frame tha
 from __future__ import annotations
 
 from collections import Counter, OrderedDict
-from typing import NamedTuple, Optional, Union
+from typing import Optional, Union
 
 from gavyreto import tds
 from gavyreto.capturing.accounts import Accounts
@@ -18,7 +18,6 @@ from gavyreto.capturing.internet import ACK, FIN, RESET, SYN, Foreign, Other, Se
 from gavyreto.capturing.memory import Memory
 from gavyreto.capturing.messages import is_header, is_record
 from gavyreto.capturing.runs import Run, is_plain
-from gavyreto.capturing.streams import SPACE
 from gavyreto.tds import PacketType
 
 MOST_RESTING = 1024  # connections that are followed at once, some of which may rest; one that rests goes on by its numbers
@@ -28,14 +27,6 @@ MOST_REVISITED = 256  # that come again
 MOST_PORTS = 64  # of other servers that are named
 WRONG_CHECKSUM = "a wrong checksum of TCP"
 GIVEN_UP = f"more than {MOST_OPEN} connections are open: this one, which was silent for longest, is given up"
-
-
-class Again(NamedTuple):
-    """A connection that comes again, and what it is compared with."""
-
-    revisit: Revisit
-    first: Union[Conversation, Ended]
-    time: int
 
 
 class Connections:
@@ -49,7 +40,7 @@ class Connections:
         self._recent: OrderedDict[Conversation, bytes] = OrderedDict()  # the longest silent first
         self._silent: OrderedDict[Conversation, bytes] = OrderedDict()  # those that were silent for longer, with a message under way
         self._endings = Endings()
-        self._again: OrderedDict[bytes, Again] = OrderedDict()
+        self._again: OrderedDict[bytes, Revisit] = OrderedDict()
         self._memory = Memory()
         self._run: Optional[Run] = None
 
@@ -151,11 +142,11 @@ class Connections:
             if conversation is None or conversation.is_far_ahead(is_client, segment):
                 ended = self._endings.find(key, is_client, segment)
                 if ended and not ended.is_new(is_client, segment):
-                    self._compare(key, ended, ended.sides(is_client)[0].place, is_client, segment, time)
+                    self._compare(key, ended, is_client, segment, time)
                     return None
                 conversation = conversation or self._begin(key, is_client, segment, ended)
         if conversation and conversation.comes_again(is_client, segment):
-            self._compare(key, conversation, conversation.streams(is_client)[0].place, is_client, segment, time)
+            self._compare(key, conversation, is_client, segment, time)
         return conversation
 
     def _of_open(self, key: bytes, is_client: bool, segment: Segment) -> Optional[Conversation]:
@@ -197,29 +188,27 @@ class Connections:
 
     # What comes again.
 
-    def _compare(self, key: bytes, first: Union[Conversation, Ended], end: int, is_client: bool, segment: Segment, time: int) -> None:
-        """A segment of a connection that was there: if its SYN or its first byte came again, it is compared up to a place."""
+    def _compare(self, key: bytes, first: Union[Conversation, Ended], is_client: bool, segment: Segment, time: int) -> None:
+        """A segment of a connection that was there: if its SYN or its first byte came again, it is compared."""
         again = self._again.get(key)
         begins = bool(segment.flags & SYN) or is_plain(segment) and segment.sequence == first.start_of(is_client)
-        if again and (again.first is not first or begins and again.revisit.has_begun(is_client)):
+        if again and (again.first is not first or begins and again.has_begun(is_client)):
             self._end_again(key)
             again = None
         if again is None:
             if not begins:
                 return
-            again = self._again[key] = Again(Revisit(self._memory), first, time)
+            again = self._again[key] = Revisit(self._memory, first, time)
             if len(self._again) > MOST_REVISITED:
                 self._end_again(next(iter(self._again)))
         self._again.move_to_end(key)
-        again.revisit.take(is_client, segment, first.start_of(is_client), end % SPACE)
+        again.take(is_client, segment)
 
     def _end_again(self, key: bytes) -> None:
         again = self._again.pop(key)
-        first = again.first
-        client, server = first.ended() if isinstance(first, Conversation) else (first.client, first.server)
-        if again.revisit.differs(client, server):
+        if again.differs():
             self._desk.tell(_sides_of(key), again.time, "a connection comes again with the same first numbers, and not with the same bytes: those that came first count")
-        again.revisit.close()
+        again.close()
 
     # Ends.
 

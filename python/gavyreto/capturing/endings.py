@@ -2,7 +2,7 @@
 from __future__ import annotations
 
 from collections import OrderedDict
-from typing import NamedTuple, Optional
+from typing import NamedTuple, Optional, Union
 
 from gavyreto.capturing.conversations import FARTHEST, Conversation
 from gavyreto.capturing.internet import ACK, SYN, Segment, Tags, is_single
@@ -23,17 +23,18 @@ class Ended(NamedTuple):
     server: Side
     is_over: bool
 
-    def sides(self, is_client: bool) -> tuple[Side, Side]:
+    def streams(self, is_client: bool) -> tuple[Side, Side]:
+        """What is known of a side, and of the other."""
         return (self.client, self.server) if is_client else (self.server, self.client)
 
     def start_of(self, is_client: bool) -> int:
         """The sequence number of the first byte of a side."""
-        own = self.sides(is_client)[0]
+        own = self.streams(is_client)[0]
         return (own.place - own.size) % SPACE
 
     def has(self, is_client: bool, segment: Segment) -> bool:
         """Whether a segment is one more of it: by the number of its SYN, or by both its numbers. Nothing comes after an end."""
-        own, other = self.sides(is_client)
+        own, other = self.streams(is_client)
         if segment.flags & SYN and own.place >= 0:
             return segment.sequence == own.first
         if own.place < 0 or other.place < 0:  # nothing of a side was there
@@ -43,7 +44,7 @@ class Ended(NamedTuple):
 
     def is_new(self, is_client: bool, segment: Segment) -> bool:
         """Whether a segment shows more than is there."""
-        own, other = self.sides(is_client)
+        own, other = self.streams(is_client)
         if own.place < 0 or other.place < 0:
             return own.place < 0 or not segment.flags & SYN
         more = ahead(segment.sequence + len(segment.data) + segment.cut, own.place)
@@ -59,7 +60,8 @@ class Revisit:
     """A connection that comes again with its first numbers, as in a file that is joined to itself: the bytes of each side, from the first
     that were there up to where they ended, to be compared with those that came first."""
 
-    def __init__(self, memory: Memory) -> None:
+    def __init__(self, memory: Memory, first: Union[Conversation, Ended], time: int) -> None:
+        self.first, self.time = first, time
         self._share = Share(memory, self.close)
         self._streams = Stream(self._share), Stream(self._share)
         self._has_syn = [False, False]
@@ -71,9 +73,9 @@ class Revisit:
         for stream in self._streams:
             stream.close()
 
-    def take(self, is_client: bool, segment: Segment, start: int, end: int) -> None:
-        """One more segment of it, of which the bytes from a sequence number up to another were there."""
-        stream = self._streams[not is_client]
+    def take(self, is_client: bool, segment: Segment) -> None:
+        """One more segment of it."""
+        stream, start, end = self._streams[not is_client], self.first.start_of(is_client), self.first.streams(is_client)[0].place
         if segment.flags & SYN:
             self._has_syn[not is_client] = True
             if not stream.is_begun():
@@ -82,7 +84,7 @@ class Revisit:
             stream.begin(start, False)
         if not segment.flags & SYN and stream.is_begun() and segment.data and not segment.is_wrong and not self._is_given_up:
             place = stream.place_of(segment.sequence)
-            piece = Piece(place, segment.data[:max(stream.place_of(end) - place, 0)], 0, 0)
+            piece = Piece(place, segment.data[:max(stream.place_of(end % SPACE) - place, 0)], 0, 0)
             stream.add_single(piece) if is_single(segment) else stream.add(piece)
             stream.show(piece.end())
             stream.settle(stream.place)
@@ -93,10 +95,11 @@ class Revisit:
         """Whether bytes of a side have come."""
         return self._streams[not is_client].delivered > 0
 
-    def differs(self, client: Side, server: Side) -> bool:
+    def differs(self) -> bool:
         """Whether the bytes of a side are known not to be the same, those up to its end or to where one of its first pieces ended; or, of
         two sides that both began again with a SYN, aren't known to be the same."""
-        found = [_is_same(*it) for it in zip(self._streams, (client, server))]
+        first = self.first.ended() if isinstance(self.first, Conversation) else self.first.streams(True)
+        found = [_is_same(*it) for it in zip(self._streams, first)]
         return False in found or all(self._has_syn) and None in found and all(stream.delivered for stream in self._streams)
 
 
