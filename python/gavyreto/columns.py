@@ -189,21 +189,18 @@ def sqlite_type(column: Column) -> str:
     return "BLOB" if column.kind in BINARY else "TEXT"
 
 
+POSTGRESQL = {  # by the kind of a column, which is filled in; others are text
+    "tinyint": "smallint", "smallint": "smallint", "int": "integer", "bigint": "bigint", "bit": "boolean", "uniqueidentifier": "uuid",
+    "date": "date", "smalldatetime": "timestamp(0)", "datetime": "timestamp(3)", "smallmoney": "numeric(10,4)", "money": "numeric(19,4)",
+    **dict.fromkeys(("decimal", "numeric"), "numeric({0.precision},{0.scale})"), "time": "time({0.scale})", "datetime2": "timestamp({0.scale})",
+    **dict.fromkeys(BINARY, "bytea"),
+}
+
+
 def postgresql_type(column: Column) -> str:
     """The type of a column of PostgreSQL. Times of seven digits stay text, since PostgreSQL has six; a datetimeoffset too, since
     a timestamptz keeps no offset."""
-    known = {
-        "tinyint": "smallint", "smallint": "smallint", "int": "integer", "bigint": "bigint", "bit": "boolean", "uniqueidentifier": "uuid",
-        "date": "date", "smalldatetime": "timestamp(0)", "datetime": "timestamp(3)", "smallmoney": "numeric(10,4)", "money": "numeric(19,4)",
-    }
-    kind = column.kind
-    if kind in known:
-        return known[kind]
-    if kind in ("decimal", "numeric"):
-        return f"numeric({column.precision},{column.scale})"
-    if kind in ("time", "datetime2") and column.scale != 7:
-        return f"{'time' if kind == 'time' else 'timestamp'}({column.scale})"
-    return "bytea" if kind in BINARY else "text"
+    return "text" if column.scale == 7 and column.kind in ("time", "datetime2") else POSTGRESQL.get(column.kind, "text").format(column)
 
 
 def create_table(table: str, columns: list[Column], type_of: Callable[[Column], str]) -> str:

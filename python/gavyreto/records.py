@@ -179,12 +179,10 @@ class Records:
 
     def _short(self) -> str:
         """A field without quotes, which has some forty characters at most."""
-        found = SHORT.match(self.rest)
-        while found and found.end() == len(self.rest) < LONGEST:
+        while SHORT.fullmatch(self.rest):
             self._need(len(self.rest) + 1)
-            found = SHORT.match(self.rest)
-        field = found[0] if found else ""
-        self.rest = self.rest[len(field):]
+        end = cast("re.Match[str]", SHORT.match(self.rest)).end()
+        field, self.rest = self.rest[:end], self.rest[end:]
         return field
 
     def _pieces(self, begin: str, pattern: re.Pattern[str], unit: int, read: Callable[[str], Piece]) -> Iterator[Piece]:
@@ -205,8 +203,7 @@ class Records:
 def joined(field: OpenField) -> Union[str, bytes]:
     """The value of a field, from its pieces. Of bytes it is never held twice."""
     if field.shape is TEXT:
-        return "".join(str(piece) for piece in field.pieces)
+        return "".join(cast("Iterator[str]", field.pieces))
     value = io.BytesIO()
-    for piece in field.pieces:
-        value.write(piece if isinstance(piece, bytes) else b"")
+    value.writelines(cast("Iterator[bytes]", field.pieces))
     return value.getvalue()
