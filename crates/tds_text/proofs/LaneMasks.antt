@@ -273,6 +273,16 @@ small_pairs (x ∷ xs) (y ∷ ys) same fits more none =
 small_pairs [] (y ∷ ys) same fits more none = grind arith
 small_pairs (x ∷ xs) [] same fits more none = grind arith
 
+-- two whose bits together are small are small
+pub small_either : (xs ys : List ℕ) → length xs ≡ length ys → Each1 (λ u. u < 128) (zip2 N.bit_or xs ys) → Each1 (λ u. u < 128) xs × Each1 (λ u. u < 128) ys
+small_either [] [] same small = (tt, tt)
+small_either (x ∷ xs) (y ∷ ys) same small =
+    let here : (x < 128) × (y < 128) = grind (arith, le_or_l, le_or_r, small.0) in
+    let later = small_either xs ys (omega arith) small.1 in
+    ((here.0, later.0), (here.1, later.1))
+small_either [] (y ∷ ys) same small = grind arith
+small_either (x ∷ xs) [] same small = grind arith
+
 -- two small ones have none
 no_pair : (a b : ℕ) → a < 128 → b < 128 → N.bit_and (N.bit_or a b) 65408 ≡ 0
 no_pair a b small little =
@@ -314,9 +324,24 @@ pub quote_mask : (bytes : List ℕ) {z : List ℕ} → length bytes ≡ 16 → z
 quote_mask bytes long lanes = rw (lanes, N.map-map (top 7) (λ b. N.cond (N.eqb b 34) 255 0) bytes)
     (N.mask_l-mod (map (λ b. top 7 (N.cond (N.eqb b 34) 255 0)) bytes) 64 (grind (arith, N.length-map)) ∙ ap mask_l (quote_bits bytes))
 
--- a byte that doesn't fail is one that passes
-pub passes : (bytes : List ℕ) → Each1 (λ b. not (N.is_unquoted b) ≡ false) bytes → Each1 (λ b. N.is_unquoted b ≡ true) bytes
-passes bytes each = N.Each1-weaker _ _ (grind arith) bytes each
+-- a mask of quotes without bits is one of bytes that are none
+pub unquoted : (bytes : List ℕ) {mask : ℕ} → mask ≡ mask_l (map (λ b. not (N.is_unquoted b)) bytes) → N.nat_eq mask 0 ≡ true
+    → Each1 (λ b. N.is_unquoted b ≡ true) bytes
+unquoted bytes {mask} is none =
+    let zero : mask ≡ 0 = grind arith in
+    N.Each1-weaker _ _ (grind arith) bytes (none_passes (λ b. not (N.is_unquoted b)) bytes (N.sym is ∙ zero))
 
-pub fails : (bytes : List ℕ) → Each1 (λ b. N.is_unquoted b ≡ true) bytes → Each1 (λ b. not (N.is_unquoted b) ≡ false) bytes
-fails bytes each = N.Each1-weaker _ _ (grind arith) bytes each
+-- and bytes that are none have no other
+pub no_quotes : (bytes : List ℕ) {mask : ℕ} → mask ≡ mask_l (map (λ b. not (N.is_unquoted b)) bytes) → Each1 (λ b. N.is_unquoted b ≡ true) bytes
+    → N.nat_eq mask 0 ≡ true
+no_quotes bytes {mask} is each =
+    let none : mask ≡ 0 = is ∙ none_set (λ b. not (N.is_unquoted b)) bytes (N.Each1-weaker _ _ (grind arith) bytes each) in
+    grind arith
+
+-- two masks that have no bit together have none
+pub no_bits : (a b : ℕ) → N.nat_eq (N.bit_or a b) 0 ≡ true → (N.nat_eq a 0 ≡ true) × (N.nat_eq b 0 ≡ true)
+no_bits a b none =
+    let zero : N.bit_or a b ≡ 0 = grind arith in
+    let first : a ≡ 0 = omega (arith, le_or_l a b, zero) in
+    let second : b ≡ 0 = omega (arith, le_or_r a b, zero) in
+    grind arith

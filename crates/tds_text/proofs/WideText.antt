@@ -277,3 +277,12 @@ pub all_more : {bytes old new : List ℕ} {at made after : ℕ} (w : ℕ) → at
     → take after new ≡ take made old ++ units_text (take w (units (chunk at (2 * w) bytes))) → N.Converts bytes old at made
     → N.Converts bytes new (at + 2 * w) after
 all_more {bytes} w room single small written before = units_more w w (lies_itself bytes) room (omega arith) single room small written before
+
+-- so were sixteen units of two loads, of characters of ASCII
+pub plain_more : {bytes old new low : List ℕ} {at made : ℕ} → at + 32 ≤ length bytes → made ≤ length old
+    → Each1 (λ u. is_wide u ≡ false) (units (chunk at 16 bytes ++ chunk (at + 16) 16 bytes)) → low ≡ N.evens (chunk at 16 bytes ++ chunk (at + 16) 16 bytes)
+    → take (made + 16) new ≡ take made old ++ take 16 low → N.Converts bytes old at made → N.Converts bytes new (at + 32) (made + 16)
+plain_more {bytes} {old} {new} {low} {at} {made} room within plain low_is written before =
+    let two = two_chunks 16 16 at bytes in
+    let added = plain_added (chunk at 32 bytes) old new _ 16 16 (omega arith) within refl refl (rw two at plain) (low_is ∙ ap N.evens two) written in
+    all_more 16 room added.1 (omega arith) added.0 before

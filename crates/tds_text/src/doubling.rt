@@ -3,7 +3,7 @@ ghost use Rattle.std.specs.Prelude.{◌≡◌, ◌+◌, ◌<◌, ◌*◌, ◌≤
 ghost use Rattle.tds_text.specs.Quoting.{doubled};
 
 use crate::encode::{put_doubled, put_lanes, take_before};
-use crate::lanes::{LANES, PART, WIDE, unquoted_run, wide_quotes};
+use crate::lanes::{LANES, PART, WIDE, first_set, quote_stops};
 use std::simd::prelude::*;
 use tds_values::Span;
 
@@ -22,7 +22,7 @@ fn take_unquoted(bytes: &[u8], at: usize, to: &mut [u8], made: usize) -> usize
     if bytes.len() - at < LANES {
         return 0;
     }
-    let n = unquoted_run(bytes, at);
+    let n = first_set(quote_stops::<LANES>(bytes, at), LANES);
     put_lanes(to, made, u8x16::from_slice(&bytes[at..]), n);
     n
 }
@@ -36,7 +36,7 @@ fn take_wide(bytes: &[u8], at: usize, to: &mut [u8], made: usize) -> usize
     ensures taken { let run = take result (drop at bytes.now) in
         take (made + result) to.new ≡ take made to.old ++ doubled run }
 {
-    take_before(bytes, at, wide_quotes(bytes, at), to, made)
+    take_before(bytes, at, quote_stops::<WIDE>(bytes, at), to, made)
 }
 
 // Writes the bytes with their quotes doubled, as long as 32 of them are left and there is room for more.

@@ -9,6 +9,7 @@ use crate::framing::{BINARY_MARK, QUOTE};
 use crate::lanes::{LANES, MANY};
 use crate::lanes_hex::{encode, put_digits};
 use crate::tight::write_tight;
+use crate::utf16::LONG;
 use crate::{utf8, utf16, windows_1252};
 use std::simd::prelude::*;
 
@@ -71,6 +72,22 @@ fn write_binary(source: &[u8], n: usize, to: &mut [u8]) -> usize
     end
 }
 
+// Writes text in UTF-16, the first `n` of these bytes, as a field.
+#[inline(never)]
+#[tactic(auto, using(crate::proofs::QuotedFields::closed, std::proofs::lemmas::Grind::common_steps))]
+fn write_long_utf16(source: &[u8], n: usize, to: &mut [u8]) -> usize
+    requires within { n ≤ length source.now }
+    requires whole { n % 2 ≡ 0 }
+    requires room { field_room Utf16Text n ≤ length to.old }
+    ensures most { result + 2 ≤ length to.old }
+    ensures field { take result to.new ≡ long_field Utf16Text (take n source.now) }
+{
+    to[0] = QUOTE;
+    let rest = &mut to[1..];
+    let made = utf16::convert_long(&source[..n], source, rest);
+    1 + close_quoted(rest, made)
+}
+
 /// Writes text in UTF-16, the first `n` of these bytes, as a field.
 #[inline(never)]
 #[tactic(auto, using(crate::proofs::QuotedFields::closed, std::proofs::lemmas::Grind::common_steps))]
@@ -81,6 +98,9 @@ pub fn write_utf16(source: &[u8], n: usize, to: &mut [u8]) -> usize
     ensures most { result + 2 ≤ length to.old }
     ensures field { take result to.new ≡ long_field Utf16Text (take n source.now) }
 {
+    if n >= LONG {
+        return write_long_utf16(source, n, to);
+    }
     to[0] = QUOTE;
     let rest = &mut to[1..];
     let made = utf16::convert_whole(&source[..n], source, rest);

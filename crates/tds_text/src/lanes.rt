@@ -37,16 +37,6 @@ pub(crate) fn first_set(mask: u64, lanes: usize) -> usize
     }
 }
 
-// How many of the next 16 bytes come before the first quote among them.
-#[inline(always)]
-pub(crate) fn unquoted_run(bytes: &[u8], at: usize) -> usize
-    requires { at + LANES ≤ length bytes.now }
-    ensures { result ≡ prefix_len is_unquoted (chunk at LANES bytes.now) }
-{
-    let quotes = u8x16::from_slice(&bytes[at..]).simd_eq(u8x16::splat(0x22));
-    first_set(quotes.to_bitmask(), LANES)
-}
-
 // How many of the next 16 bytes, each looked at with the byte after it, come before the first that can't be in a text whose
 // characters have one or two bytes, or is a quote.
 #[inline(always)]
@@ -63,14 +53,15 @@ pub(crate) fn joined_run(bytes: &[u8], at: usize) -> usize
     first_set(stops.to_bitmask(), LANES)
 }
 
-// Which of the next 32 bytes are quotes, the first by the lowest bit.
+// Which of the next `N` bytes are quotes, the first by the lowest bit.
 #[inline(always)]
-pub(crate) fn wide_quotes(bytes: &[u8], at: usize) -> u64
-    requires { at + WIDE ≤ length bytes.now }
-    ensures { first_set result WIDE ≡ prefix_len is_unquoted (chunk at WIDE bytes.now) }
+pub(crate) fn quote_stops<const N: usize>(bytes: &[u8], at: usize) -> u64
+    requires few { N ≤ BLOCK }
+    requires there { at + N ≤ length bytes.now }
+    ensures { first_set result N ≡ prefix_len is_unquoted (chunk at N bytes.now) }
 {
-    let quotes = u8x32::from_slice(&bytes[at..]).simd_eq(u8x32::splat(0x22));
-    quotes.to_bitmask()
+    let lanes = Simd::<u8, N>::from_slice(&bytes[at..]);
+    lanes.simd_eq(Simd::<u8, N>::splat(0x22)).to_bitmask()
 }
 
 // Which of the next `N` bytes are quotes or aren't of ASCII, the first by the lowest bit.

@@ -1,5 +1,5 @@
 // Units of UTF-16, eight at a time.
-ghost use Rattle.std.specs.Prelude.{◌≡◌, ◌^◌, ◌%◌, ◌<◌, ◌≤◌, ◌-◌, ◌++◌, map, false, take, drop, replicate, true};
+ghost use Rattle.std.specs.Prelude.{◌≡◌, ◌^◌, ◌%◌, ◌<◌, ◌≤◌, ◌-◌, ◌++◌, map, not, false, take, drop, replicate, true};
 ghost use lib.Lanes.{Each1, mask_l};
 ghost use Rattle.tds_text.specs.Plain.{evens, is_unquoted};
 ghost use Rattle.tds_text.specs.Utf16 as utf16;
@@ -96,13 +96,12 @@ pub(crate) fn all_low_bytes(first: u8x16, second: u8x16) -> u8x16
     )
 }
 
-// Whether one of sixteen bytes is a quote.
+// Which of sixteen bytes are quotes, the first by the lowest bit.
 #[inline(always)]
-fn has_quote(bytes: u8x16) -> bool
-    ensures none { result ≡ false → Each1 (λ b. is_unquoted b ≡ true) bytes }
-    ensures other { result ≡ true → Each1 (λ b. is_unquoted b ≡ true) bytes → ⊥ }
+fn quotes_in(bytes: u8x16) -> u64
+    ensures { result ≡ mask_l (map (λ b. not (is_unquoted b)) bytes) }
 {
-    bytes.simd_eq(u8x16::splat(0x22)).to_bitmask() != 0
+    bytes.simd_eq(u8x16::splat(0x22)).to_bitmask()
 }
 
 // Whether each of the sixteen units of two loads is a character of ASCII, and none is a quote: their low bytes are their text then.
@@ -114,7 +113,22 @@ pub(crate) fn are_all_plain(first: u8x16, second: u8x16) -> bool
     if !are_ascii(units_of(first), units_of(second)) {
         return false;
     }
-    !has_quote(all_low_bytes(first, second))
+    quotes_in(all_low_bytes(first, second)) == 0
+}
+
+// Whether each of the 32 units of four loads is a character of ASCII, and none is a quote.
+#[inline(always)]
+pub(crate) fn are_many_plain(first: u8x16, second: u8x16, third: u8x16, fourth: u8x16) -> bool
+    ensures front { result ≡ true → Each1 (λ u. is_wide u ≡ false) (utf16.units (first ++ second)) }
+    ensures back { result ≡ true → Each1 (λ u. is_wide u ≡ false) (utf16.units (third ++ fourth)) }
+{
+    let front = units_of(first) | units_of(second);
+    let back = units_of(third) | units_of(fourth);
+    if !are_ascii(front, back) {
+        return false;
+    }
+    let quotes = quotes_in(all_low_bytes(first, second));
+    quotes | quotes_in(all_low_bytes(third, fourth)) == 0
 }
 
 // Which of eight units have a text of fewer than three bytes, or are surrogates, the first by the lowest bit.

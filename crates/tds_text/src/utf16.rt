@@ -11,12 +11,15 @@ ghost use Rattle.tds_text.specs.Utf16Next.{Converts, ConvertsIn, IsCharacter, Is
 
 use crate::beyond_ascii::put_units;
 use crate::encode::{put_lanes, put_quoted};
-use crate::lanes::{LANES, WIDE, first_set};
+use crate::lanes::{BLOCK, LANES, WIDE, first_set};
 use crate::lanes_utf16::{
-    MANY_UNITS, UNITS, all_low_bytes, are_all_plain, surrogate_units, units_of,
+    MANY_UNITS, UNITS, all_low_bytes, are_all_plain, are_many_plain, surrogate_units, units_of,
 };
 use std::simd::prelude::*;
 use tds_values::Span;
+
+/// How many bytes a text has at least of which 32 units are taken at a time; a shorter one is better off without.
+pub(crate) const LONG: usize = 4 * BLOCK;
 
 /// A character, and how many bytes it takes.
 #[derive(Clone, Copy)]
@@ -130,9 +133,46 @@ pub(crate) fn convert_one(bytes: &[u8], from: usize, to: &mut [u8], start: usize
     }
 }
 
-/// Goes on with the text by sixteen units, as long as all of them are characters of ASCII, none is a quote, and they come before `end`.
+// Goes on with the text by 32 units, as long as all of them are characters of ASCII, none is a quote, and they come before `end`.
 #[inline(always)]
-pub fn convert_plain(bytes: &[u8], from: usize, end: usize, to: &mut [u8], start: usize) -> Span
+fn convert_blocks(bytes: &[u8], from: usize, end: usize, to: &mut [u8], start: usize) -> Span
+    requires before { Converts bytes.now to.old from start }
+    requires within { (from ≤ end) × (end ≤ length bytes.now) }
+    requires room { end - from + 2 * start ≤ 2 * length to.old }
+    ensures within { (from ≤ result.used) × (result.used ≤ end) }
+    ensures single { result.used + 2 * start ≡ from + 2 * result.made }
+    ensures after { Converts bytes.now to.new result.used result.made }
+{
+    let mut at = from;
+    let mut made = start;
+    if end - from < BLOCK {
+        return Span { used: at, made };
+    }
+    let last_block = end - BLOCK;
+    while at <= last_block {
+        let first = u8x16::from_slice(&bytes[at..]);
+        let second = u8x16::from_slice(&bytes[at + LANES..]);
+        let third = u8x16::from_slice(&bytes[at + WIDE..]);
+        let fourth = u8x16::from_slice(&bytes[at + WIDE + LANES..]);
+        if !are_many_plain(first, second, third, fourth) {
+            break;
+        }
+        put_lanes(to, made, all_low_bytes(first, second), MANY_UNITS);
+        put_lanes(
+            to,
+            made + MANY_UNITS,
+            all_low_bytes(third, fourth),
+            MANY_UNITS,
+        );
+        at += BLOCK;
+        made += 2 * MANY_UNITS;
+    }
+    Span { used: at, made }
+}
+
+// Goes on with the text by sixteen units, as long as all of them are characters of ASCII, none is a quote, and they come before `end`.
+#[inline(always)]
+fn convert_plain(bytes: &[u8], from: usize, end: usize, to: &mut [u8], start: usize) -> Span
     requires before { Converts bytes.now to.old from start }
     requires within { (from ≤ end) × (end ≤ length bytes.now) }
     requires room { end - from + 2 * start ≤ 2 * length to.old }
@@ -159,6 +199,23 @@ pub fn convert_plain(bytes: &[u8], from: usize, end: usize, to: &mut [u8], start
         made += MANY_UNITS;
     }
     Span { used: at, made }
+}
+
+/// Goes on with long text by 32 units and then by sixteen, as long as all of them are characters of ASCII, none is a quote, and they
+/// come before `end`.
+#[inline(always)]
+pub fn convert_ascii(bytes: &[u8], from: usize, end: usize, to: &mut [u8], start: usize) -> Span
+    requires before { Converts bytes.now to.old from start }
+    requires within { (from ≤ end) × (end ≤ length bytes.now) }
+    requires room { end - from + 2 * start ≤ 2 * length to.old }
+    ensures within { (from ≤ result.used) × (result.used ≤ end) }
+    ensures single { result.used + 2 * start ≡ from + 2 * result.made }
+    ensures after { Converts bytes.now to.new result.used result.made }
+    ensures ends { result.used + 32 ≤ end →
+        Each1 (λ u. is_wide u ≡ false) (utf16.units (chunk result.used 32 bytes.now)) → ⊥ }
+{
+    let front = convert_blocks(bytes, from, end, to, start);
+    convert_plain(bytes, front.used, end, to, front.made)
 }
 
 // Goes on with the text by eight units, of which the last begin at `last` at the latest, up to the next surrogate.
@@ -293,6 +350,18 @@ fn convert_from(bytes: &[u8], source: &[u8], after: Span, to: &mut [u8]) -> Span
     }
 }
 
+// Writes the text of the first units of long data, as `convert_blocks` does.
+#[inline(always)]
+fn convert_front(bytes: &[u8], to: &mut [u8]) -> Span
+    requires room { length bytes.now ≤ 2 * length to.old }
+    ensures { Converts bytes.now to.new result.used result.made }
+{
+    if bytes.len() < LONG {
+        return Span { used: 0, made: 0 };
+    }
+    convert_blocks(bytes, 0, bytes.len(), to, 0)
+}
+
 /// Writes the text of the characters that are fixed. What follows the bytes in the source may be looked at.
 #[inline(always)]
 #[tactic(auto, using(crate::proofs::Utf16Steps::ends_short))]
@@ -303,7 +372,8 @@ pub fn convert(bytes: &[u8], source: &[u8], to: &mut [u8]) -> Span
     ensures text { take result.made to.new ≡ emit utf16.rest utf16.text bytes.now }
     ensures used { LeavesRest bytes.now 0 result.used }
 {
-    let run = convert_run(bytes, source, 0, to, 0);
+    let front = convert_front(bytes, to);
+    let run = convert_run(bytes, source, front.used, to, front.made);
     if bytes.len() - run.used < 2 {
         return run;
     }
@@ -325,6 +395,21 @@ fn convert_last(bytes: &[u8], source: &[u8], after: Span, to: &mut [u8]) -> usiz
     put_quoted(to, done.made, 0xFFFD)
 }
 
+// Goes on with the text of whole data, and returns its length. A high surrogate at the end has no partner.
+#[inline(always)]
+fn convert_rest(bytes: &[u8], source: &[u8], after: Span, to: &mut [u8]) -> usize
+    requires whole { length bytes.now % 2 ≡ 0 }
+    requires before { ConvertsIn bytes.now source.now to.old after.used after.made }
+    ensures short { 2 * result ≤ 3 * length bytes.now }
+    ensures text { take result to.new ≡ utf16.text bytes.now }
+{
+    let run = convert_run(bytes, source, after.used, to, after.made);
+    if run.used == bytes.len() {
+        return run.made;
+    }
+    convert_last(bytes, source, run, to)
+}
+
 // Writes the text of whole data, and returns its length. A high surrogate at the end has no partner.
 #[inline(always)]
 pub(crate) fn convert_whole(bytes: &[u8], source: &[u8], to: &mut [u8]) -> usize
@@ -334,11 +419,20 @@ pub(crate) fn convert_whole(bytes: &[u8], source: &[u8], to: &mut [u8]) -> usize
     ensures short { 2 * result ≤ 3 * length bytes.now }
     ensures text { take result to.new ≡ utf16.text bytes.now }
 {
-    let run = convert_run(bytes, source, 0, to, 0);
-    if run.used == bytes.len() {
-        return run.made;
-    }
-    convert_last(bytes, source, run, to)
+    convert_rest(bytes, source, Span { used: 0, made: 0 }, to)
+}
+
+// Writes the text of long data as `convert_whole` does.
+#[inline(always)]
+pub(crate) fn convert_long(bytes: &[u8], source: &[u8], to: &mut [u8]) -> usize
+    requires source { LiesIn bytes.now source.now }
+    requires whole { length bytes.now % 2 ≡ 0 }
+    requires room { 3 * length bytes.now + 2 * LANES ≤ 2 * length to.old }
+    ensures short { 2 * result ≤ 3 * length bytes.now }
+    ensures text { take result to.new ≡ utf16.text bytes.now }
+{
+    let front = convert_blocks(bytes, 0, bytes.len(), to, 0);
+    convert_rest(bytes, source, front, to)
 }
 
 /// Writes the text of whole data of at most eight units, which are the first of these lanes, and returns its length.

@@ -13,7 +13,7 @@ use crate::sink::Sink;
 use std::io::Write;
 use tds_packet::Stop;
 use tds_text::lanes::LANES;
-use tds_text::utf16::{character_at, convert, convert_plain};
+use tds_text::utf16::{character_at, convert, convert_ascii};
 
 /// How many bytes the text of a chunk has at most, and as many as are written at once.
 const TEXT: usize = 3 * CHUNK / 2 + LANES;
@@ -75,7 +75,7 @@ fn put_plain<W: Write>(bytes: &[u8], likely: bool, sink: &mut Sink<'_, W>) -> us
     let waiting = sink.waiting() as usize;
     let room = sink.room() - 1;
     let end = bytes.len().min(2 * room);
-    let done = convert_plain(bytes, 0, end, sink.spare(room), 0);
+    let done = convert_ascii(bytes, 0, end, sink.spare(room), 0);
     sink.commit(waiting, done.made);
     done.used
 }

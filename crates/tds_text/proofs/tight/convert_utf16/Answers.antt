@@ -4,8 +4,8 @@ use N.{◌≡◌, ◌∙◌, ◌≤◌, ◌++◌, ◌+◌, ◌-◌, ◌*◌, ◌
 use borrow.Rule.Slice.PartMut.{put_mid}
 use N.WideText.{lies_itself, none_converted, units_more}
 
-pub convert_plain-plain-requires-clause-before : goal.convert_plain-plain-requires-clause-before
-convert_plain-plain-requires-clause-before c =
+pub convert_ascii-plain-requires-clause-before : goal.convert_ascii-plain-requires-clause-before
+convert_ascii-plain-requires-clause-before c =
     let bytes = c.args.bytes.now in
     let few = length bytes / 2 % 16 in
     let some = few % 8 in

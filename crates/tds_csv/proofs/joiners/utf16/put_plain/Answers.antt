@@ -3,12 +3,12 @@ use Rattle.tds_text.proofs as T
 use N.joiners.utf16.put_plain.Goals as goal
 use N.{[], take}
 
-pub convert_plain-done-requires-clause-before : goal.convert_plain-done-requires-clause-before
-convert_plain-done-requires-clause-before g c = T.WideText.none_converted c.args.bytes.now _
+pub convert_ascii-done-requires-clause-before : goal.convert_ascii-done-requires-clause-before
+convert_ascii-done-requires-clause-before g c = T.WideText.none_converted c.args.bytes.now _
 
 pub returns-clause-puts : goal.returns-clause-puts
 returns-clause-puts g c =
-    let done = c.convert_plain-done in (
+    let done = c.convert_ascii-done in (
       take done.result.made done.new.to,
       N.LentRooms.kept_puts c.args.sink.now c.spare.result.now done.new.to c.waiting-waiting.result done.auto.to c.waiting-waiting.ensures
           c.requires.writing N.refl c.commit.ensures,
