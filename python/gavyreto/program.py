@@ -297,6 +297,7 @@ class Program(contextlib.AbstractContextManager["Program"]):
         """Has no part in it any more, in a process that was forked off: with a copy of a pipe it would go on for ever."""
         process, self._process, self._pipe, self._open = self._process, None, None, set()
         self._close_input()
+        self._drop_pipe()  # which later may close what has its number then
         if process:
             process.returncode = DONE
             for pipe in filter(None, (process.stdin, process.stdout, process.stderr)):

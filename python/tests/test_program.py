@@ -2,6 +2,7 @@
 from __future__ import annotations
 
 import contextlib
+import gc
 import os
 import random
 import resource
@@ -102,6 +103,22 @@ class Runs(unittest.TestCase):
                 with Program(command()) as other:
                     is_well = [ended(other, data, True)[0].status for data in (ORDERED[:20], ORDERED)] == [BAD_INPUT, DONE]
                 os._exit(not is_well)
+            self.assertEqual(os.waitpid(child, 0)[1], 0)
+
+    def test_what_has_its_numbers_in_a_process_that_closes_all(self) -> None:
+        """It stays open where the program is collected there, closed before or not, and Python has no lines to say."""
+        for close in (lambda _: None, Program.close):
+            run = Program(command())
+            self.assertEqual(ended(run, ORDERED)[0].status, DONE)
+            close(run)
+            child = os.fork()
+            if not child:
+                os.closerange(3, 256)
+                others = [os.dup(0) for _ in range(64)]
+                with mock.patch.object(sys, "unraisablehook") as dropped:
+                    del run
+                    gc.collect()
+                os._exit(dropped.called or {*others} != set(map(int, os.listdir("/proc/self/fd"))) & {*others})
             self.assertEqual(os.waitpid(child, 0)[1], 0)
 
     def test_nothing_that_python_warns_of(self) -> None:
