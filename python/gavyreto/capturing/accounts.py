@@ -46,14 +46,10 @@ class Accounts:
 
     def line(self) -> str:
         """All sums, on one line."""
-        parts = []
-        if self.frames:
-            parts.append(f"frames {self.frames}: {self.in_connections} in connections, {self.elsewhere} of others, {self.not_read()} not read")
-        if self.packets:
-            parts.append(f"packets {self.packets}")
-        parts.append(f"connections {self.connections}")
-        parts.append(f"requests {self.requests}: {self.answered} answered, {self.unanswered} not")
-        places = [(self.in_answers, f"in {self.answers} answers"), (self.in_greetings, "in greetings"), (self.in_logins, "in logins")]
-        places += [(self.in_acknowledgements, "after attentions")] if self.in_acknowledgements else []
-        parts.append(f"bytes {self.received}: " + ", ".join(f"{count} {where}" for count, where in [*places, (self.told, "told")]))
-        return "; ".join(parts)
+        frames = f"frames {self.frames}: {self.in_connections} in connections, {self.elsewhere} of others, {self.not_read()} not read; "
+        attentions = f"{self.in_acknowledgements} after attentions, "
+        return (
+            f"{frames if self.frames else ''}{f'packets {self.packets}; ' if self.packets else ''}connections {self.connections}; "
+            f"requests {self.requests}: {self.answered} answered, {self.unanswered} not; "
+            f"bytes {self.received}: {self.in_answers} in {self.answers} answers, {self.in_greetings} in greetings, {self.in_logins} in logins, "
+            f"{attentions if self.in_acknowledgements else ''}{self.told} told")

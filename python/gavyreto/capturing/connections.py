@@ -18,6 +18,7 @@ from gavyreto.capturing.internet import ACK, FIN, RESET, SYN, Foreign, Other, Se
 from gavyreto.capturing.memory import Memory
 from gavyreto.capturing.messages import is_header, is_record
 from gavyreto.capturing.runs import Run, is_plain
+from gavyreto.capturing.streams import SPACE
 from gavyreto.tds import PacketType
 
 MOST_RESTING = 1024  # connections that are followed at once, some of which may rest; one that rests goes on by its numbers
@@ -191,7 +192,7 @@ class Connections:
     def _compare(self, key: bytes, first: Union[Conversation, Ended], is_client: bool, segment: Segment, time: int) -> None:
         """A segment of a connection that was there: if its SYN or its first byte came again, it is compared."""
         again = self._again.get(key)
-        begins = bool(segment.flags & SYN) or is_plain(segment) and segment.sequence == first.start_of(is_client)
+        begins = bool(segment.flags & SYN) or is_plain(segment) and segment.sequence == first.streams(is_client)[0].start % SPACE
         if again and (again.first is not first or begins and again.has_begun(is_client)):
             self._end_again(key)
             again = None

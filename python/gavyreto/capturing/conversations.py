@@ -12,8 +12,6 @@ from gavyreto.capturing.memory import Memory, Share
 from gavyreto.capturing.messages import Requests
 from gavyreto.capturing.streams import SPACE, WINDOW, Piece, Pieces, Side, Stream
 
-FARTHEST = 1 << 28  # bytes after all that is shown, that a number of the same connection may be ahead by
-
 
 class Conversation:
     """A connection.
@@ -38,15 +36,15 @@ class Conversation:
         """Whether a segment has numbers that no segment of this connection has: before its beginning, or far after all that it
         shows. A SYN has to be the same."""
         stream, other = self.streams(is_client)
-        is_other = _is_far(stream, segment.sequence)
+        is_other = stream.is_far(segment.sequence)
         if segment.flags & SYN and stream.is_begun():
-            is_other = segment.sequence != stream.first if stream.first is not None else not _may_begin(stream, (segment.sequence + 1) % SPACE)
-        return is_other or bool(segment.flags & ACK) and _is_far(other, segment.acknowledged)
+            is_other = segment.sequence != stream.first if stream.first is not None else not stream.may_begin((segment.sequence + 1) % SPACE)
+        return is_other or bool(segment.flags & ACK) and other.is_far(segment.acknowledged)
 
     def is_far_ahead(self, is_client: bool, segment: Segment) -> bool:
         """Whether a segment has numbers far after all that is shown of this connection."""
         stream, other = self.streams(is_client)
-        return _is_ahead(stream, segment.sequence) or bool(segment.flags & ACK) and _is_ahead(other, segment.acknowledged)
+        return stream.is_ahead(segment.sequence) or bool(segment.flags & ACK) and other.is_ahead(segment.acknowledged)
 
     def is_near(self, is_client: bool, segment: Segment) -> bool:
         """Whether a segment, which is no SYN, has both numbers among those of what is there, or close after it."""
@@ -63,10 +61,6 @@ class Conversation:
         if segment.flags & SYN:
             return stream.delivered > 0 and other.delivered > 0
         return bool(segment.data) and stream.place_of(segment.sequence) < stream.place
-
-    def start_of(self, is_client: bool) -> int:
-        """The sequence number of the first byte of a side."""
-        return self.streams(is_client)[0].start % SPACE
 
     def first(self) -> tuple[Optional[int], Optional[int]]:
         """The sequence numbers of both SYNs, as far as they are there."""
@@ -281,20 +275,3 @@ class Conversation:
     def ended(self) -> tuple[Side, Side]:
         """What is kept of it: its client, and its server."""
         return self.client.side(), self.server.side()
-
-
-def _is_far(stream: Stream, sequence: int) -> bool:
-    """Whether a number is before the beginning of a stream, or far after all that is shown of it. A number less than that of the first
-    byte asks whether the other side is there; of a stream whose beginning isn't there, earlier bytes may come."""
-    place = stream.place_of(sequence)
-    return stream.is_begun() and not stream.start - (WINDOW if stream.is_late else 1) <= place <= stream.shown + FARTHEST
-
-
-def _is_ahead(stream: Stream, sequence: int) -> bool:
-    return stream.is_begun() and stream.place_of(sequence) > stream.shown + WINDOW
-
-
-def _may_begin(stream: Stream, sequence: int) -> bool:
-    """Whether a stream may have begun with a number that isn't that of its first byte, as far as is known."""
-    place = stream.place_of(sequence)
-    return place == stream.start or not stream.delivered and abs(place - stream.start) < WINDOW

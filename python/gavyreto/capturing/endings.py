@@ -4,10 +4,10 @@ from __future__ import annotations
 from collections import OrderedDict
 from typing import NamedTuple, Optional, Union
 
-from gavyreto.capturing.conversations import FARTHEST, Conversation
+from gavyreto.capturing.conversations import Conversation
 from gavyreto.capturing.internet import ACK, SYN, Segment, Tags, is_single
 from gavyreto.capturing.memory import Memory, Share
-from gavyreto.capturing.streams import MARK, SPACE, WINDOW, Piece, Side, Stream, ahead
+from gavyreto.capturing.streams import FARTHEST, MARK, SPACE, WINDOW, Piece, Side, Stream, ahead
 
 MOST_ENDED = 1 << 14  # whose numbers are kept
 MOST_OF_A_KEY = 4  # of the same addresses
@@ -26,11 +26,6 @@ class Ended(NamedTuple):
     def streams(self, is_client: bool) -> tuple[Side, Side]:
         """What is known of a side, and of the other."""
         return (self.client, self.server) if is_client else (self.server, self.client)
-
-    def start_of(self, is_client: bool) -> int:
-        """The sequence number of the first byte of a side."""
-        own = self.streams(is_client)[0]
-        return (own.place - own.size) % SPACE
 
     def has(self, is_client: bool, segment: Segment) -> bool:
         """Whether a segment is one more of it: by the number of its SYN, or by both its numbers. Nothing comes after an end."""
@@ -75,16 +70,16 @@ class Revisit:
 
     def take(self, is_client: bool, segment: Segment) -> None:
         """One more segment of it."""
-        stream, start, end = self._streams[not is_client], self.first.start_of(is_client), self.first.streams(is_client)[0].place
+        stream, first = self._streams[not is_client], self.first.streams(is_client)[0]
         if segment.flags & SYN:
             self._has_syn[not is_client] = True
             if not stream.is_begun():
                 stream.begin((segment.sequence + 1) % SPACE, False)
-        if not stream.is_begun() and segment.data and segment.sequence == start:
-            stream.begin(start, False)
+        if not stream.is_begun() and segment.data and segment.sequence == first.start % SPACE:
+            stream.begin(segment.sequence, False)
         if not segment.flags & SYN and stream.is_begun() and segment.data and not segment.is_wrong and not self._is_given_up:
             place = stream.place_of(segment.sequence)
-            piece = Piece(place, segment.data[:max(stream.place_of(end % SPACE) - place, 0)], 0, 0)
+            piece = Piece(place, segment.data[:max(stream.place_of(first.place % SPACE) - place, 0)], 0, 0)
             stream.add_single(piece) if is_single(segment) else stream.add(piece)
             stream.show(piece.end())
             stream.settle(stream.place)

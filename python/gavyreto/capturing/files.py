@@ -6,6 +6,7 @@ import gzip
 import io
 import struct
 import zlib
+from collections import Counter
 from collections.abc import Iterator
 from typing import IO, Callable, NamedTuple, Union, cast
 
@@ -103,24 +104,23 @@ class Drops:
     def __init__(self) -> None:
         self.unknown = 0  #: blocks
         self._ended = 0  # of the sections before
-        self._counted: dict[int, int] = {}
-        self._before: dict[int, int] = {}
+        self._counted, self._before = Counter[int](), Counter[int]()
 
     def end_section(self) -> None:
         """The interfaces that follow are others."""
         self._ended = self.total()
-        self._counted, self._before = {}, {}
+        self._counted, self._before = Counter(), Counter()
 
     def count(self, interface: int, so_far: int) -> None:
         """So many of an interface, from the beginning on."""
-        self._counted[interface] = max(so_far, self._counted.get(interface, 0))
+        self._counted |= Counter({interface: so_far})
 
     def add(self, interface: int, count: int) -> None:
         """So many more of an interface."""
-        self._before[interface] = self._before.get(interface, 0) + count
+        self._before[interface] += count
 
     def total(self) -> int:
-        return self._ended + sum(max(self._counted.get(it, 0), self._before.get(it, 0)) for it in {*self._counted, *self._before})
+        return self._ended + sum((self._counted | self._before).values())  # the greater count of each
 
 
 def frames(source: Source, drops: Drops) -> Iterator[Frame]:
@@ -188,27 +188,15 @@ def _pcapng(source: Source, drops: Drops) -> Iterator[Frame]:
             interfaces.append(_interface(order, body))
         elif kind in (PACKET, SIMPLE_PACKET, OLD_PACKET):
             try:
-                frame = _frame(order, kind, body, interfaces)
+                frame = _frame(order, kind, body, interfaces, drops)
             except (struct.error, IndexError):
                 raise CutShort("the capture goes on with a block that is no frame") from None
-            _count_before(order, kind, body, len(frame.data), drops)
             yield frame
         elif kind == STATISTICS and len(body) >= 12:
             found = [struct.unpack(order + "Q", value)[0] for option, value in _options(order, body, 12) if option in DROPPED and len(value) == 8]
             drops.count(struct.unpack_from(order + "I", body)[0], sum(it for it in found if it != UNKNOWN))
         elif kind not in WITHOUT_FRAMES:
             drops.unknown += 1
-
-
-def _count_before(order: str, kind: int, body: bytes, captured: int, drops: Drops) -> None:
-    """Counts the frames that were lost before one."""
-    if kind == OLD_PACKET:
-        interface, lost = struct.unpack_from(order + "HH", body)
-        drops.add(interface, lost if lost != UNKNOWN_BEFORE else 0)
-    elif kind == PACKET:
-        for option, value in _options(order, body, 20 + captured + -captured % 4):
-            if option == DROPPED_BEFORE and len(value) == 8:
-                drops.add(struct.unpack_from(order + "I", body)[0], struct.unpack(order + "Q", value)[0])
 
 
 def _options(order: str, body: bytes, at: int) -> Iterator[tuple[int, bytes]]:
@@ -234,13 +222,19 @@ def _interface(order: str, body: bytes) -> _Interface:
     return _Interface(link, most, units, offset)
 
 
-def _frame(order: str, kind: int, body: bytes, interfaces: list[_Interface]) -> Frame:
-    """The frame of a block. Raises struct.error or IndexError if it is none."""
+def _frame(order: str, kind: int, body: bytes, interfaces: list[_Interface], drops: Drops) -> Frame:
+    """The frame of a block; those that were lost before it are counted. Raises struct.error or IndexError if it is none."""
     if kind == SIMPLE_PACKET:
         length, = struct.unpack_from(order + "I", body)
         captured = min(length, interfaces[0].most or length)
         return Frame(0, interfaces[0].link, struct.unpack_from(f"{captured}s", body, 4)[0], length)
     number, high, low, captured, length = struct.unpack_from(order + ("IIIII" if kind == PACKET else "HxxIIII"), body)
-    interface = interfaces[number]
+    interface, data = interfaces[number], struct.unpack_from(f"{captured}s", body, 20)[0]
+    if kind == OLD_PACKET:
+        lost, = struct.unpack_from(order + "H", body, 2)
+        drops.add(number, lost if lost != UNKNOWN_BEFORE else 0)
+    for option, value in _options(order, body, 20 + captured + -captured % 4) if kind == PACKET else ():
+        if option == DROPPED_BEFORE and len(value) == 8:
+            drops.add(number, struct.unpack(order + "Q", value)[0])
     time = interface.offset * 10**6 + (high << 32 | low) * 10**6 // interface.units
-    return Frame(time, interface.link, struct.unpack_from(f"{captured}s", body, 20)[0], max(length, captured))
+    return Frame(time, interface.link, data, max(length, captured))

@@ -18,6 +18,7 @@ from gavyreto.capturing.memory import OBJECT, Share
 
 SPACE, HALF = 1 << 32, 1 << 31
 WINDOW = 1 << 20  # bytes that are held of one stream
+FARTHEST = 1 << 28  # bytes after all that is shown, that a number of the same stream may be ahead by
 REMEMBERED = 1 << 20  # bytes of one stream, handed out and not acknowledged, that copies are compared with
 MARK = struct.Struct(">QI")
 MOST_MARKS = 8 * MARK.size
@@ -46,6 +47,11 @@ class Side(NamedTuple):
     size: int
     sum: int
     marks: bytes
+
+    @property
+    def start(self) -> int:
+        """The place of its first byte."""
+        return self.place - self.size
 
 
 class Pieces(list[Piece]):
@@ -128,7 +134,7 @@ class Stream:
         self.first = side.first
         if side.place >= 0:
             _, _, self.delivered, self.sum, self.marks = side
-            self.start = SPACE + (side.place - side.size) % SPACE
+            self.start = SPACE + side.start % SPACE
             self.place = self.shown = self.acknowledged = self.start + side.size
             self._is_firm = True
 
@@ -136,6 +142,20 @@ class Stream:
         """Whether a number is that of a byte that is there, or close after it."""
         after = (sequence - self.place) % SPACE
         return after < WINDOW or SPACE - after <= self.place - self.start
+
+    def is_far(self, sequence: int) -> bool:
+        """Whether a number is before the beginning, or far after all that is shown. A number less than that of the first byte asks whether
+        the other side is there; of a stream whose beginning isn't there, earlier bytes may come."""
+        return self.is_begun() and not self.start - (WINDOW if self.is_late else 1) <= self.place_of(sequence) <= self.shown + FARTHEST
+
+    def is_ahead(self, sequence: int) -> bool:
+        """Whether a number is after what may be held of all that is shown."""
+        return self.is_begun() and self.place_of(sequence) > self.shown + WINDOW
+
+    def may_begin(self, sequence: int) -> bool:
+        """Whether it may have begun with a number that isn't that of its first byte, as far as is known."""
+        place = self.place_of(sequence)
+        return place == self.start or not self.delivered and abs(place - self.start) < WINDOW
 
     def is_begun(self) -> bool:
         return self.place >= 0
