@@ -205,7 +205,8 @@ class Captures(unittest.TestCase):
         again = self.run_capture("capture", "out")
         self.assertEqual(again.returncode, 2)
         self.assertIn(b"has texts", again.stderr)
-        cases = [(["nothere", "other"], 5), (["--port", "1434", "capture", "third"], 4), ([sys.executable, "a/b/c/"], 2), (["--port", "0", "capture", "other"], 2)]
+        os.makedirs(os.path.join(self.folder, "left", "unfinished4x_1"))  # as by a run that was killed
+        cases = [(["nothere", "other"], 5), (["capture", "left"], 2), (["--port", "1434", "capture", "third"], 4), ([sys.executable, "a/b/c/"], 2), (["--port", "0", "capture", "other"], 2)]
         for words, status in cases:
             with self.subTest(words=words):
                 came = self.run_capture(*words)

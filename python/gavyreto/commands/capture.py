@@ -47,6 +47,7 @@ from gavyreto.tds import PacketType
 
 HEADER = ("text", "client", "server", "time", "statement", "status", "line")
 FRAMES = 256  # after so many the time is looked at
+UNFINISHED = "unfinished"  # at the beginning of the name of a folder of texts and packets under way, which a run leaves that is killed
 MOST_COUNTED = 1 << 14  # connections whose number of texts is kept
 EPOCH = datetime(1970, 1, 1, tzinfo=timezone.utc)
 
@@ -156,12 +157,12 @@ def capture(asked: argparse.Namespace) -> int:
     with Input(asked.file) as file, folder_of_texts(asked.out):
         check_input(file.fileno(), "the capture is")
         source = files.source_of(file)
-        left = [name for name in os.listdir(asked.out) if name.endswith((".csv", ".partial", ".tds"))]
+        left = [name for name in os.listdir(asked.out) if name.endswith((".csv", ".partial", ".tds")) or name.startswith(UNFINISHED)]
         if left:
             raise Stopped(f"{asked.out} has texts, as {left[0]}: name a folder without them", REFUSED)
         # A signal waits while the folder is made, and while it is removed, so that it doesn't leave it there.
         with signals(signal.SIG_BLOCK, SIGNALS) as before, tempfile.TemporaryDirectory(
-                prefix="unfinished", dir=asked.out) as folder, signals(signal.SIG_SETMASK, before), contextlib.ExitStack() as stack:
+                prefix=UNFINISHED, dir=asked.out) as folder, signals(signal.SIG_SETMASK, before), contextlib.ExitStack() as stack:
             room = stack.enter_context(Room(folder, command_for(asked), not asked.packets and not asked.adapt))
             export, accounts = Export(asked, room), Accounts()
             if files.is_capture(source.head()):
