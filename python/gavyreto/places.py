@@ -17,7 +17,8 @@ from gavyreto.commands.common import (
 from gavyreto.program import FAILED, REFUSED
 
 PARTIAL = ".partial"  # behind the name of what isn't whole
-NAMED = "system.posix_acl_access"  # the list of those who are named, of Linux
+LISTS = ("system.posix_acl_access", "system.posix_acl_default")  # of who is named: of a file, and of what is made in a folder (Linux)
+OTHERS = stat.S_IRWXG | stat.S_IRWXO  # all but the owner
 
 
 class Place(NamedTuple):
@@ -56,15 +57,21 @@ def stats_of(*names: Union[str, int]) -> list[os.stat_result]:
 
 
 def mode_of(path: str) -> int:
-    """The mode of a file, 0 if none is there. Where others than its group are named who may open it, the mode has what these may at most,
-    which the group of another file would be allowed: it is left out."""
+    """The mode of a file, for one in its place, which nobody may open who is kept from it; 0 if none is there. Where that has another group,
+    all but its owner may do what group and others both may; nothing where more are named, as in a list of the file or of its folder."""
+    folder = os.path.dirname(os.path.abspath(path))
     try:
-        mode = os.stat(path).st_mode
+        found, above = os.stat(path), os.stat(folder)
     except OSError:
         return 0
-    with contextlib.suppress(OSError):  # it has no such list
-        os.getxattr(path, NAMED)
-        mode &= ~stat.S_IRWXG
+    mode, group = found.st_mode, above.st_gid if above.st_mode & stat.S_ISGID else os.getegid()
+    if found.st_gid != group:
+        both = mode >> 3 & mode & stat.S_IRWXO
+        mode = mode & ~OTHERS | both << 3 | both
+    for place, name in zip((path, folder), LISTS):
+        with contextlib.suppress(OSError):  # it has no such list
+            os.getxattr(place, name)
+            mode &= ~OTHERS
     return mode
 
 

@@ -182,20 +182,40 @@ class Outputs(Live):
         self.assertEqual(len(seen), 8)
         self.assertEqual([one for one, other in seen], [other for one, other in seen])
 
+    def assert_modes(self, name: str, mode: int) -> None:
+        """What takes the place of a file has this mode as long as it is under way, also where it is a text among others."""
+        self.addCleanup(os.umask, os.umask(0))
+        rows = places.Opened(places.Place("rows", -1, name))
+        with outcomes.begun(self.path("new"), os.path.basename(name)) as text:
+            self.assertEqual([f"{stat.S_IMODE(os.fstat(it).st_mode):o}" for it in (rows.descriptor, text.fileno())], [f"{mode:o}"] * 2)
+        rows.close(False)
+        os.remove(text.name)
+
     def test_who_is_named_beside_the_group(self) -> None:
-        """The mode of a file with such a list has what these may at most in the place of what the group may, which may nothing here."""
+        """The mode of a file with such a list has what these may at most in the place of what the group may, which may nothing here. That of a
+        folder is of the files that are made there."""
         entries = ((1, 6, -1), (2, 4, 65534), (4, 0, -1), (16, 4, -1), (32, 0, -1))  # the owner, one by number, the group, the most, all others
-        with open(self.path("rows"), "wb") as file:
+        for place, name in (("rows", "system.posix_acl_access"), (".", "system.posix_acl_default")):
+            with open(self.path("rows"), "wb") as file:
+                os.chmod(file.fileno(), 0o640)
             try:
-                os.setxattr(file.fileno(), "system.posix_acl_access", struct.pack("<I", 2) + b"".join(struct.pack("<HHi", *entry) for entry in entries))
+                os.setxattr(self.path(place), name, struct.pack("<I", 2) + b"".join(struct.pack("<HHi", *entry) for entry in entries))
             except OSError:
                 self.skipTest("no lists of this sort are there")
-        self.assertEqual(stat.S_IMODE(os.stat(file.name).st_mode), 0o640)
-        os.link(file.name, self.path("old.csv"))
-        rows = places.Opened(places.Place("rows", -1, file.name))
-        with outcomes.begun(self.path("new"), *outcomes.texts_of("old")) as text:
-            self.assertEqual([stat.S_IMODE(os.fstat(it).st_mode) for it in (rows.descriptor, text.fileno())], [0o600, 0o600])
-        rows.close(False)
+            self.assertEqual(stat.S_IMODE(os.stat(file.name).st_mode), 0o640)
+            self.assert_modes(file.name, 0o600)
+            os.removexattr(self.path(place), name)
+
+    def test_a_group_that_new_files_have_not(self) -> None:
+        """It is that of the user, or of the folder: who is in it may no more than others, nor others than the group that was allowed."""
+        with open(self.path("rows"), "wb") as file, mock.patch.object(os, "getegid", lambda: os.stat(file.name).st_gid + 1):
+            for mode, left in ((0o640, 0o600), (0o644, 0o644), (0o664, 0o644), (0o604, 0o600), (0o606, 0o600)):
+                os.chmod(file.name, mode)
+                self.assert_modes(file.name, left)
+            self.addCleanup(os.chmod, self.folder, 0o700)
+            os.chmod(self.folder, 0o2700)
+            os.chmod(file.name, 0o640)
+            self.assert_modes(file.name, 0o640)
 
     def test_two_names_of_one_file(self) -> None:
         for words in ("'SELECT * FROM orders' 'SELECT * FROM sets'", "<<'END'\nSELECT * FROM orders\nGO\nSELECT * FROM sets\nEND\n"):
