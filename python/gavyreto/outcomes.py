@@ -41,6 +41,7 @@ class Record:
 
 
 R = TypeVar("R", bound=Record)
+State = tuple[int, int, int]  # of a file: its inode, its bytes, and the time of its last write
 
 
 class Table(Generic[R]):
@@ -52,8 +53,8 @@ class Table(Generic[R]):
         self._kinds = [KINDS[str(it.type)] for it in fields(record)]
         self._header = line([of, *(it.name for it in fields(record)[1:])]).encode()
         self.records = self._read()
-        self._there = set[str]()  # names in the folder before any text
-        self._descriptor = -1
+        self._there = dict[str, Optional[State]]()  # the texts of these names before any of this run
+        self._descriptor, self._size = -1, 0  # of the table
 
     def _read(self) -> dict[str, R]:
         """The lines that are there, by what they are of, but for one at the end that isn't whole, since its writing was stopped."""
@@ -96,13 +97,36 @@ class Table(Generic[R]):
             if is_one_file(os.path.join(self._folder, name), STANDARD_ERROR):
                 raise Stopped(f"{name}: the lines are written to it", REFUSED)
         self.records = {key: record for key, record in self.records.items() if key not in again and record.text not in texts}
-        with begun(self._path + UNFINISHED, TABLE, how="wb") as out:
+        with contextlib.suppress(FileNotFoundError):  # of a run that was killed, or what something else has put there
+            os.remove(self._path + UNFINISHED)
+        with begun(self._path + UNFINISHED, TABLE) as out:
             write(out.name, out.fileno(), self._header + b"".join(map(_line_of, self.records.values())))
         if is_one_file(out.name, os.path.join(self._folder, os.path.basename(out.name).swapcase())):
             check_apart(TABLE.removesuffix(TEXT), *names, *(os.path.basename(it) for it in self.records))
         os.replace(out.name, self._path)
-        self._there = {*os.listdir(self._folder)}
+        self._there = {text: self._state_of(text) for text in texts}
         self._descriptor = os.open(self._path, os.O_WRONLY | os.O_APPEND | os.O_CLOEXEC)
+        self._size = os.fstat(self._descriptor).st_size
+
+    def _state_of(self, text: str) -> Optional[State]:
+        """What tells a text from another one of its name; None if none is there."""
+        with contextlib.suppress(OSError):
+            found = os.lstat(os.path.join(self._folder, text))
+            return found.st_ino, found.st_size, found.st_mtime_ns
+        return None
+
+    def _is_old(self, text: str) -> bool:
+        """Whether a text is there that was there before any of this run."""
+        state = self._there.get(text)
+        return state is not None and state == self._state_of(text)
+
+    def _write(self, data: bytes) -> None:
+        """Writes a line. Raises `Stopped` if lines are lost: an editor that saves the table puts an older one in its place, or into it."""
+        write(self._path, self._descriptor, data)
+        self._size += len(data)
+        found = os.stat(self._path)
+        if found.st_size != self._size or not os.path.samestat(found, os.fstat(self._descriptor)):
+            raise Stopped(f"{self._path}: something else writes it too, and lines are lost", FAILED)
 
     def close(self) -> None:
         os.close(self._descriptor)
@@ -113,22 +137,22 @@ class Table(Generic[R]):
 
     def add(self, record: R, name: str, waiting: Optional[str]) -> R:
         """Gives the text that waits its name, if one does, takes away the one that was there before, and writes the line: that of a
-        failure if the text can't have its name. Returns it."""
+        failure if the text can't have its name. Returns it. Raises `Stopped` if the table can't be written, or isn't what was written."""
         if waiting:
             record.text = texts_of(name)[record.status == BAD_INPUT]
             try:
                 target = os.path.join(self._folder, record.text)
-                if record.text in self._there:
+                if self._is_old(record.text):
                     os.replace(waiting, target)
                 else:
                     rename(waiting, target)  # what something else has put there meanwhile stays
                 record.text_change = os.stat(target).st_ctime_ns
             except OSError as failure:
                 record.status, record.line, record.text, record.written = FAILED, f"{record.text}: {cause_of(failure)}", None, 0
-        for other in self._there & {*texts_of(name)} - {record.text}:
+        for other in filter(self._is_old, {*texts_of(name)} - {record.text}):
             with contextlib.suppress(OSError):
                 os.remove(os.path.join(self._folder, other))
-        write(self._path, self._descriptor, _line_of(record))
+        self._write(_line_of(record))
         self.records[record.name] = record
         return record
 
@@ -138,11 +162,11 @@ def texts_of(name: str) -> tuple[str, str]:
     return name + TEXT, name + PARTIAL
 
 
-def begun(path: str, *olds: str, how: str = "xb") -> IO[bytes]:
+def begun(path: str, *olds: str) -> IO[bytes]:
     """A file that will take the place of others of its folder, which may be opened by nobody from whom one of them is kept."""
     folder = os.path.dirname(path)
     modes = (mode_of(os.path.join(folder, name)) or 0o666 for name in olds)
-    return open(path, how, opener=partial(os.open, mode=reduce(and_, modes, 0o666)))
+    return open(path, "xb", opener=partial(os.open, mode=reduce(and_, modes, 0o666)))
 
 
 def check_apart(*names: str) -> None:

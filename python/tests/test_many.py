@@ -9,6 +9,7 @@ import itertools
 import os
 import shutil
 import signal
+import stat
 import subprocess
 import sys
 import tempfile
@@ -373,16 +374,44 @@ class Here(Many):
         with open(self.path("modes"), encoding="ascii") as file:
             self.assertEqual({*file.read().split()}, {"640", "600"})
 
+    def test_what_a_run_left_that_was_killed(self) -> None:
+        """A table that isn't whole makes room, whoever may read it; so does a link, and what that leads to stays."""
+        self.store(1)
+        os.mkdir(self.path("out"))
+        with open(self.path("out", "outcomes.csv"), "wb") as table, open(self.path("another"), "wb") as another:
+            another.write(b"another")
+        os.chmod(table.name, 0o600)
+        ways: tuple[Callable[[str, str], object], ...] = shutil.copyfile, os.symlink
+        for lay in ways:
+            lay(another.name, table.name + ".unfinished")
+            self.assertEqual(self.many("--program", PROGRAM, "in", "out")[0], 0)
+            self.assertEqual((os.lstat(table.name).st_mode, os.stat(another.name).st_size), (stat.S_IFREG | 0o600, 7))
+
+    def test_a_table_that_is_saved_meanwhile(self) -> None:
+        """By an editor that makes another file of its name, or writes into it what was there before: the run ends, as lines are lost."""
+        self.store(3)
+        for save in ("mv saved out/outcomes.csv", "cat saved > out/outcomes.csv"):
+            saving = self.relaying(f"test -f saved || cp out/outcomes.csv saved; test ! -f out/000.csv || {save}; :")
+            line = f"{self.path('out', 'outcomes.csv')}: something else writes it too, and lines are lost"
+            self.assertEqual(self.many("-j", "1", "--program", saving, "in", "out"), (5, line))
+            shutil.rmtree(self.path("out"))
+            with contextlib.suppress(FileNotFoundError):
+                os.remove(self.path("saved"))
+
     def test_a_foreign_file_that_comes_meanwhile(self) -> None:
-        """It stays, by whatever name of a text, and the response has failed if it would have that."""
+        """It stays, by whatever name of a text, and the response has failed if it would have that; also where a text was before."""
         self.store(1)
         for name, line in (("000.csv", (5, "000.csv: File exists")), ("000.csv.partial", (0, "sets 1 rows 40"))):
-            putting = self.relaying(f"printf another > out/{name}")
-            self.assertEqual(self.many("--program", putting, "in", "out")[0], line[0])
-            self.assertEqual([(status, it[:len(line[1])]) for _, status, it in self.table()], [line])
-            with open(self.path("out", name), "rb") as file:
-                self.assertEqual(file.read(), b"another")
-            shutil.rmtree(self.path("out"))
+            for was_there in (False, True):
+                putting = self.relaying(f"printf another > out/{name}")
+                if was_there:
+                    self.assertEqual(self.many("--program", PROGRAM, "in", "out")[0], 0)
+                    os.replace(self.path("out", "000.csv"), self.path("out", name))
+                self.assertEqual(self.many("--program", putting, "in", "out")[0], line[0])
+                self.assertEqual([(status, it[:len(line[1])]) for _, status, it in self.table()], [line])
+                with open(self.path("out", name), "rb") as file:
+                    self.assertEqual(file.read(), b"another")
+                shutil.rmtree(self.path("out"))
 
     def test_a_table_that_is_cut_or_damaged(self) -> None:
         """Of one that is cut anywhere the whole lines count; one that lacks a byte elsewhere, or has another, keeps its lines or is none."""
