@@ -27,6 +27,7 @@ class Readable(Protocol):
 
 Source = Union[str, "os.PathLike[str]", bytes, bytearray, memoryview, int, socket.socket, Readable]
 OF_DESCRIPTORS = (int, io.FileIO, socket.socket)  # read by their descriptors; a subclass, as ssl.SSLSocket, by its own method
+BUFFERS = (io.BufferedReader, io.BufferedRandom)
 Copy = Callable[[Write], bool]  # whether all packets were there
 SOME = 4096  # bytes that are compared
 Tail = Callable[[], tds.Bytes]  # the end of the payload, once all of it was read
@@ -157,22 +158,24 @@ class Response(Sets):
         said = ending.said
         if isinstance(said, Fault):
             said.rest = rest
-        is_all_read = isinstance(said, (Report, ServerError)) or isinstance(said, Fault) and said.name == "InputEnded"
+        is_whole = isinstance(said, (Report, ServerError))
+        is_all_read = is_whole or isinstance(said, Fault) and said.name == "InputEnded"
         if self._feeding and is_all_read:
             self._feeding.join()
         if self._feeding and self._feeding.error and (is_all_read or said is None):
             self._raise(self._feeding.error)
-        self.is_whole = isinstance(said, (Report, ServerError))
+        unfinished = self._unfinished() if is_whole else None
+        self.is_whole = is_whole
         if isinstance(said, Error):
             self._raise(said)
         if said is None or not self._is_text_of(said):
             self._raise(ProgramFailed(ending.status if ending.status < OF_SIGNAL else OF_SIGNAL - ending.status, ending.notes))
-        if unfinished := self._unfinished():
+        if unfinished:
             self._raise(UnfinishedAnswer(unfinished, said))
         self.report = said
 
     def _unfinished(self) -> Optional[str]:
-        """What there is to say of an answer that the server ended as cancelled or failed."""
+        """What there is to say of an answer that the server ended as cancelled or failed. Raises OSError if it may be another one."""
         return tds.unfinished(bytes(self._tail())) if self._tail else None
 
     def _is_text_of(self, report: Report) -> bool:
@@ -231,10 +234,11 @@ def _of_bytes(data: bytes, command: list[str], dates: Dates) -> Response:
 
 
 def _reading(source: Source) -> tuple[Read, Callable[[], object]]:
-    """What reads a source, and what ends that."""
+    """What reads a source, and what ends that, which fails if it is a file that changed meanwhile."""
     if isinstance(source, (bytes, bytearray, memoryview)):
         return io.BytesIO(source).read, lambda: None
-    if type(source) in OF_DESCRIPTORS:
+    is_buffer = _is_buffer(source)
+    if type(source) in OF_DESCRIPTORS or is_buffer:
         own = os.fdopen(os.dup(_descriptor_of(source)), "rb", buffering=0)
     elif isinstance(source, (str, os.PathLike)):
         own = open(source, "rb", buffering=0)
@@ -246,7 +250,15 @@ def _reading(source: Source) -> tuple[Read, Callable[[], object]]:
         with own:
             before.check()
 
-    return lambda most: own.read(most) or b"", close
+    return _read_of(source) if is_buffer else lambda most: own.read(most) or b"", close
+
+
+def _is_buffer(source: Any) -> bool:
+    """Whether a source is the buffer of a regular file."""
+    try:
+        return isinstance(source, BUFFERS) and stat.S_ISREG(os.fstat(source.fileno()).st_mode)
+    except (AttributeError, OSError, ValueError):  # it is closed, or that of something else, as of what is packed in a file
+        return False
 
 
 def adapt_all(adapter: Adapter, found: Descriptions) -> bool:

@@ -243,6 +243,17 @@ class Columns(unittest.TestCase):
                     self.assertRaisesRegex(OSError, "it changed while it was read", rows.fetchall)
                     self.assertRaisesRegex(gavyreto.Interrupted, "OSError", rows.fetchall)
 
+    def test_a_file_with_an_error_that_changes(self) -> None:
+        """The error is that of the response which is there now, and the rows before it may be of another one."""
+        with tempfile.NamedTemporaryFile() as file:
+            self.write_to(file.name, wire("broken", 5))
+            time.sleep(0.02)  # which the time of a change tells apart
+            with export(file.name) as came:
+                rows = came.only()
+                self.write_to(file.name, wire("broken", 5))
+                self.assertRaisesRegex(OSError, "it changed while it was read", rows.fetchall)
+                self.assertFalse(came.is_whole)
+
     def test_a_file_that_changes_once_it_is_read(self) -> None:
         """The types that are asked for then aren't those of what has come there."""
         with tempfile.NamedTemporaryFile() as file:
@@ -254,24 +265,28 @@ class Columns(unittest.TestCase):
                 self.write_to(file.name, wire("float"))
                 self.assertIsNone(rows.columns)
 
-    def test_a_file_that_changes_while_it_is_rewritten(self) -> None:
-        """What is behind its place may be of another response."""
+    def test_a_file_that_changes_while_it_is_handed_over(self) -> None:
+        """What is behind its place may be of another response: where it is rewritten, and where a buffer reads it, which `open` makes."""
         data = wire("orders", 100_000)
         for of, flags, changed, kind in (
-            (str, 0, wire("orders"), OSError), (str, os.O_TRUNC, wire("orders"), OSError), (int, 0, wire("orders"), OSError), (str, os.O_APPEND, wire("error"), None)):
-            with self.subTest(of=of, flags=flags), tempfile.NamedTemporaryFile() as file:
-                self.write_to(file.name, data)
-                time.sleep(0.02)  # which the time of a change tells apart
-                with export(file.name if of is str else file.fileno(), adapt=True) as came:
-                    rows = came.only()
-                    rows.fetchone()
-                    held = os.open(file.name, os.O_WRONLY | flags)
-                    os.write(held, changed)
-                    os.close(held)
-                    if kind is None:
-                        self.assertEqual(len(rows.fetchall()), 99_999)
-                    else:
-                        self.assertRaisesRegex(kind, "it changed while it was read", rows.fetchall)
+            (str, 0, wire("orders"), OSError), (str, os.O_TRUNC, wire("orders"), OSError), (int, 0, wire("orders"), OSError), (str, os.O_APPEND, wire("error"), None),
+            (open, 0, wire("orders"), OSError), (open, os.O_APPEND, wire("error"), None),
+        ):
+            for adapt in (True, False)[:1 + (of is open)]:
+                with self.subTest(of=of, flags=flags, adapt=adapt), tempfile.NamedTemporaryFile() as file:
+                    self.write_to(file.name, data)
+                    time.sleep(0.02)  # which the time of a change tells apart
+                    source = {str: file.name, int: file.fileno(), open: file.file}[of]
+                    with export(source, adapt=adapt) as came:
+                        rows = came.only()
+                        rows.fetchone()
+                        held = os.open(file.name, os.O_WRONLY | flags)
+                        os.write(held, changed)
+                        os.close(held)
+                        if kind is None:
+                            self.assertEqual(len(rows.fetchall()), 99_999)
+                        else:
+                            self.assertRaisesRegex(kind, "it changed while it was read", rows.fetchall)
 
     def test_rows_by_name_and_as_a_cursor_has_them(self) -> None:
         """PEP 249's calls; a row is a tuple, which pickle keeps, and has its names too."""
