@@ -354,7 +354,8 @@ def context_of(certificates: Optional[str], trust_server: bool) -> ssl.SSLContex
     try:
         context = ssl.create_default_context(cafile=certificates) if certificates or not trust_server else ssl.SSLContext(ssl.PROTOCOL_TLS_CLIENT)
     except OSError as failure:
-        raise ValueError(f"the certificates of {certificates} can't be read: {failure.strerror or failure}") from None
+        what = f"SSLKEYLOGFILE: {failure.filename}" if failure.filename else f"the certificates of {certificates} can't be read"
+        raise ValueError(f"{what}: {failure.strerror or failure}") from None
     context.maximum_version = ssl.TLSVersion.TLSv1_2  # the greatest within TDS 7.4
     if trust_server:
         context.check_hostname, context.verify_mode = False, ssl.CERT_NONE

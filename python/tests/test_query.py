@@ -306,6 +306,8 @@ class Refusals(Live):
                 self.assertEqual((came.returncode, came.stdout, came.stderr.decode().count("\n")), (status, b"", 1), came.stderr)
                 self.assertTrue(came.stderr.decode().startswith(line), came.stderr)
                 self.assertFalse(os.path.exists(self.path("sent")))
+        came = self.query("TRUSTED 'DELETE FROM orders'", ("--record", "sent"), SSLKEYLOGFILE="none/keys")
+        self.assert_ends(came, 2, b"", "SSLKEYLOGFILE: none/keys: No such file or directory")
 
     def test_a_statement_of_standard_input_that_has_no_place(self) -> None:
         came = self.query("TRUSTED < latin", ("--record", "sent"), "printf 'SELECT * FROM orders\\nGO\\n\\351' > latin; ")
