@@ -51,6 +51,8 @@ class Arguments(Live):
                 self.assertEqual((asked.encrypt, asked.statements), (encrypt, ["SELECT 1"]), words)
         for words, line in (("-Ns", "-N: strict encryption"), ("-N strict", "-N: strict encryption"), ("-Nx", "-N: x is none of")):
             self.refused(f"{words} 'SELECT 1'", line)
+        with mock.patch.dict(os.environ, SQLCMDSERVER="h"):
+            self.assertEqual(arguments(["--", "-N", "m"]).statements, ["-N", "m"])
 
     def test_flags_of_sqlcmd_are_refused_by_name(self) -> None:
         for flag in ("-h -1", "-b", "-w 99", "-r1", "-v x=1", "-y 0", "-f 65001", "-s ,", "-Q x", "-G"):

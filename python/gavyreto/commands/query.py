@@ -260,23 +260,20 @@ class HelpOfSqlcmd(argparse.Action):
 
 
 def with_encryption(words: list[str]) -> list[str]:
-    """The words with the flag -N of sqlcmd and its value, in one word or in two, as --encrypt. Raises `Stopped` for a value that is none."""
-    changed, at = list[str](), 0
-    while at < len(words) and words[at] != "--":
-        word = words[at]
-        if not word.startswith("-N"):
-            changed.append(word)
-        else:
-            in_two = word == "-N" and at + 1 < len(words) and words[at + 1].lower() in ENCRYPTIONS
-            value = words[at + 1] if in_two else word[2:].lstrip("=:") or "m"
-            at += in_two
-            encrypt = ENCRYPTIONS.get(value.lower())
-            if not encrypt:
-                why = "strict encryption is of TDS 8.0, and isn't spoken here" if encrypt == "" else f"{value[:20]} is none of {', '.join(ENCRYPTIONS)}"
-                raise Stopped(f"-N: {why}", REFUSED)
-            changed.append(f"--encrypt={encrypt}")
-        at += 1
-    return changed + words[at:]
+    """The words, in which each flag -N of sqlcmd that no value follows has one: m."""
+    end = words.index("--") if "--" in words else len(words)
+    following = [*words[1:end], ""]
+    return ["-Nm" if word == "-N" and after.lower() not in ENCRYPTIONS else word for word, after in zip(words[:end], following)] + words[end:]
+
+
+def encryption(text: str) -> str:
+    """What a value of -N is for --encrypt. Raises `Stopped` for one that is none."""
+    value = text.lstrip("=:") or "m"
+    encrypt = ENCRYPTIONS.get(value.lower())
+    if not encrypt:
+        why = "strict encryption is of TDS 8.0, and isn't spoken here" if encrypt == "" else f"{value[:20]} is none of {', '.join(ENCRYPTIONS)}"
+        raise Stopped(f"-N: {why}", REFUSED)
+    return encrypt
 
 
 def server(text: str) -> Where:
@@ -329,7 +326,7 @@ def add_connection(add: Callable[..., object]) -> None:
     """The options of a connection."""
     add("--encrypt", choices=connection.ENCRYPT, default=connection.ENCRYPT[0],
         help="minimum encryption (default: all); a server that asks for more gets it")
-    add("-N", dest="encrypt", metavar="m|o", help="same as --encrypt all, with o as --encrypt login")
+    add("-N", dest="encrypt", metavar="m|o", type=encryption, help="same as --encrypt all, with o as --encrypt login")
     add("-C", "--trust-server", action="store_true", help="accept any certificate: whoever is between can read everything")
     add("--certificates", metavar="FILE", type=named, help="authorities to trust instead of the system's, in PEM")
     add("--certificate-name", metavar="NAME", type=named, help="name in the certificate (default: HOST), also in that of a server to which HOST redirects")
