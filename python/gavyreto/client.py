@@ -8,8 +8,9 @@ from functools import partial
 from typing import Any, Iterator, Optional, cast
 
 from gavyreto.adapting import Adapter, Blocks
-from gavyreto.connection import ENCRYPT, LOGIN_SECONDS, SECONDS, Secret, Session, check_arguments, log_in_to
+from gavyreto.connection import ENCRYPT, LOGIN_SECONDS, SECONDS, Session, check_type, log_in_to
 from gavyreto.errors import Error, NotSupportedError, ProgrammingError
+from gavyreto.logins import hidden
 from gavyreto.payload import Descriptions, LateDescriptions, Payload, Write
 from gavyreto.program import CHARSETS, COLUMN_ROOM, MAX_WIRE, PACKET_SIZE_ASKED, PROGRAM, Program, command_of, path_of
 from gavyreto.response import Feeding, Response, adapt_all
@@ -63,7 +64,8 @@ class Connection(Single, contextlib.AbstractContextManager["Connection"]):
             if self._answer and not self._answer.is_left:
                 raise ValueError("the answer before isn't read to its end")
             check_dates(dates)
-            check_arguments({"statement": statement}, {"adapt": adapt}, {}, ())
+            check_type(str, statement=statement)
+            check_type(bool, adapt=adapt)
             run = self._run_of(command_of(program, self._session.packet_size, column_room, max_wire, charset))
             run.begin()
             self._session.send(statement)
@@ -265,8 +267,7 @@ def connect(
     Raises ConnectionFailed, of which TimedOut, CertificateRefused, EncryptionRefused and LoginRefused are kinds, BadAnswer if what
     answers is no such server, and ValueError or TypeError if an argument is none. A redirection is followed once, and only if it came
     encrypted. Neither a ticket nor a token is sent without encryption."""
-    password = Secret(password) if isinstance(password, str) else password
-    access_token = Secret(access_token) if isinstance(access_token, str) else access_token
+    password, access_token = hidden(password), hidden(access_token)
     own: dict[str, Any] = {**locals()}  # all arguments, by their names
     if isinstance(server, str) and server.lower().startswith(SCHEME):
         own |= _of_url(server)
@@ -295,8 +296,8 @@ def query(
 ) -> Response:
     """Asks a server one statement, on a connection of its own, and returns an iterator over the result sets of the answer:
     what `connect` and `Connection.query` do with the same arguments."""
-    path, password = path_of(program), Secret(password) if isinstance(password, str) else password
-    access_token = Secret(access_token) if isinstance(access_token, str) else access_token
+    password, access_token = hidden(password), hidden(access_token)
+    path = path_of(program)
     connection = connect(
         server, user=user, password=password, integrated=integrated, access_token=access_token, port=port, database=database, encrypt=encrypt,
         certificates=certificates, certificate_name=certificate_name, trust_server=trust_server, packet_size=packet_size, seconds=seconds,

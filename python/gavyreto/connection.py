@@ -13,8 +13,8 @@ import time
 from typing import Any, Callable, Iterator, NamedTuple, Optional, TypeVar, Union
 
 from gavyreto import tds
-from gavyreto.errors import BadAnswer, CertificateRefused, ConnectionFailed, EncryptionRefused, Error, LoginRefused, TimedOut
-from gavyreto.logins import Hidden, Proof, Proving, checked_token, proof_of
+from gavyreto.errors import BadAnswer, CertificateRefused, ConnectionFailed, EncryptionRefused, Error, TimedOut
+from gavyreto.logins import Hidden, Proof, Proving, checked_token, hidden, proof_of
 from gavyreto.tds import Encryption, PacketType
 from gavyreto.where import BROWSER, MORE, port_of
 
@@ -195,8 +195,8 @@ class Channel:
         raise BadAnswer("a message that is too long came")
 
     def write_message(self, kind: int, payload: bytes, size: int = tds.FIRST_PACKET_SIZE) -> None:
-        """Writes a message in packets of at most `size` bytes."""
-        for packet in tds.packets([payload], size, kind):
+        """Writes a message in packets of at most `size` bytes, which may have a password."""
+        for packet in map(Hidden, tds.packets([payload], size, kind)):
             self.write(packet)
 
     def encrypt(self, context: ssl.SSLContext, **side: Any) -> None:
@@ -392,8 +392,9 @@ def greet(channel: Channel, server: Server, proof: Proof) -> tuple[Encryption, b
     kind, payload = channel.read_message()
     channel.expect_nothing()
     try:
-        answered, is_required = tds.encryption_of(payload), tds.option_of(payload, tds.TOKEN_REQUIRED) == 1
-    except (ValueError, struct.error):
+        options = tds.options_of(payload)
+        answered, is_required = Encryption(options[tds.ENCRYPTION]), options.get(tds.TOKEN_REQUIRED) == 1
+    except (ValueError, KeyError, struct.error):
         kind, answered, is_required = -1, Encryption.NOT_SUPPORTED, False
     if kind != PacketType.ANSWER:
         raise BadAnswer("what came isn't the answer of a server of TDS 7.4 to a greeting")
@@ -432,10 +433,6 @@ def read_answer(channel: Channel) -> tds.Accepted:
     kind, payload = channel.read_message()
     try:
         accepted = tds.read_login_answer(payload)
-    except tds.Refused as refused:
-        raise LoginRefused(str(refused)) from None
-    except tds.OtherVersion as other:
-        raise BadAnswer(f"the server speaks TDS {other}, and TDS 7.4 is spoken here") from None
     except (ValueError, IndexError, struct.error):
         kind = -1
     if kind != PacketType.ANSWER:
@@ -574,26 +571,18 @@ class Session(contextlib.AbstractContextManager["Session"]):
                 self._channel.next_of(framing)
 
 
-class Secret(str):
-    """A password, which isn't shown where a frame's variables are."""
+def check_type(kind: type, **given: object) -> None:
+    """Raises TypeError if an argument isn't of a type."""
+    for name, value in given.items():
+        if not isinstance(value, kind):
+            raise TypeError(f"{name} is a {kind.__name__}, not {type(value).__name__}")
 
-    def __repr__(self) -> str:
-        return "''"
 
-
-def check_arguments(
-    texts: dict[str, object], flags: dict[str, object], numbers: dict[str, tuple[object, float, float]], whole: tuple[str, ...],
-) -> None:
-    """Raises TypeError or ValueError unless the texts are `str`, the flags `bool`, and the numbers in their ranges."""
-    for name, text in texts.items():
-        if not isinstance(text, str):
-            raise TypeError(f"{name} is a str, not {type(text).__name__}")
-    for name, flag in flags.items():
-        if not isinstance(flag, bool):
-            raise TypeError(f"{name} is a bool, not {type(flag).__name__}")
-    for name, (number, least, most) in numbers.items():
-        if isinstance(number, bool) or not isinstance(number, (int, float)) or name in whole and not isinstance(number, int):
-            raise TypeError(f"{name} is a {'whole ' if name in whole else ''}number, not {type(number).__name__}")
+def check_number(kind: type, least: int, most: int, **given: float) -> None:
+    """Raises TypeError if an argument is no number, or no whole one if the type is `int`, and ValueError if it isn't in its range, or is 0."""
+    for name, number in given.items():
+        if isinstance(number, bool) or not isinstance(number, (int, kind)):
+            raise TypeError(f"{name} is a {'whole ' if kind is int else ''}number, not {type(number).__name__}")
         if not least <= number <= most or number <= 0:
             raise ValueError(f"{name} is {'above 0' if least == 0 else least} to {most}, not {number}")
 
@@ -604,22 +593,22 @@ def log_in_to(
 ) -> Session:
     """Connects to a server, and logs in: what `gavyreto.connect` does with the same arguments."""
     token = "" if access_token is None else access_token
-    check_arguments(
-        {"server": server, "user": user, "password": password, "database": database, "certificate_name": certificate_name, "access_token": token},
-        {"trust_server": trust_server, "integrated": integrated},
-        {"port": (port, 1, 65535), "packet_size": (packet_size, tds.LEAST_PACKET_SIZE, tds.GREATEST_PACKET_SIZE),
-         "seconds": (seconds, 0, MOST_SECONDS), "login_seconds": (login_seconds, 0, MOST_SECONDS)}, ("port", "packet_size"))
+    check_type(str, server=server, user=user, password=password, database=database, certificate_name=certificate_name, access_token=token)
+    check_type(bool, trust_server=trust_server, integrated=integrated)
+    check_number(int, 1, 65535, port=port)
+    check_number(int, tds.LEAST_PACKET_SIZE, tds.GREATEST_PACKET_SIZE, packet_size=packet_size)
+    check_number(float, 0, MOST_SECONDS, seconds=seconds, login_seconds=login_seconds)
     if MORE.search(server):
         raise ValueError("server is a name, an address or a URL, and what is given is none")
     if encrypt not in ENCRYPT:
         raise ValueError(f"encrypt is one of {', '.join(ENCRYPT)}, not {encrypt}")
     if integrated + (access_token is not None) + bool(user or password) > 1:
         raise ValueError("a login is by user and password, integrated, or by an access token: one of them")
-    proving = functools.partial(proof_of, integrated, None if access_token is None else Secret(checked_token(access_token)))
+    proving = functools.partial(proof_of, integrated, None if access_token is None else checked_token(access_token))
     host, _, instance = server.partition("\\")
     here = Server(host, port, certificate_name or host, encrypt, contexts_of(certificates, trust_server), seconds, login_seconds,
                   time.monotonic() + login_seconds, instance)
-    login = tds.Login(socket.gethostname(), user, Secret(password), "gavyreto", server, "", "", database, packet_size)
+    login = tds.Login(socket.gethostname(), user, hidden(password), "gavyreto", server, "", "", database, packet_size)
     here = here.found()
     channel, accepted = _session(here, login, proving)
     if accepted.routing:
@@ -645,7 +634,7 @@ def _session(server: Server, login: tds.Login, proving: Proving) -> tuple[Channe
 
     def message(is_required: bool) -> bytes:
         sent = {"token": ticket, "echoes": is_required} if proof.is_token else {"ticket": ticket}
-        return Hidden(tds.login(login, os.getpid() & 0xFFFF, **sent))  # type: ignore[arg-type]
+        return tds.login(login, os.getpid() & 0xFFFF, **sent)  # type: ignore[arg-type]
 
     with told(server):
         channel = server.reach()

@@ -17,6 +17,18 @@ class Hidden(bytes):
         return "b''"
 
 
+class Secret(str):
+    """A password or a token, which isn't shown there either."""
+
+    def __repr__(self) -> str:
+        return "''"
+
+
+def hidden(given: Any) -> Any:
+    """A password or a token as it was given, of a type that isn't shown there; what is none stays, and is refused later."""
+    return Secret(given) if isinstance(given, str) else Hidden(given) if isinstance(given, bytes) else given
+
+
 class Proof:
     """A password, which the login has itself."""
 
@@ -61,7 +73,7 @@ class Kerberos(Proof):
         self._gssapi, self._service = gssapi, service
         self._context: Any = None
 
-    def _step(self, came: Optional[bytes]) -> bytes:
+    def answer(self, came: Optional[bytes]) -> bytes:
         try:
             if self._context is None:
                 flags = self._gssapi.RequirementFlag
@@ -75,10 +87,7 @@ class Kerberos(Proof):
             raise ConnectionFailed(f"{what} {self._service}: {' '.join(str(failure).split())}") from None
 
     def ticket(self) -> bytes:
-        return self._step(None)
-
-    def answer(self, came: bytes) -> bytes:
-        return self._step(came)
+        return self.answer(None)
 
     def check(self) -> None:
         if not self._context.complete:
@@ -94,7 +103,7 @@ def proof_of(integrated: bool, token: Optional[str], host: str, port: int) -> Pr
 
 def checked_token(token: str) -> str:
     """A token, without the line end behind it. Raises ValueError, which doesn't show it, if it is none."""
-    token = token.strip()
+    token = Secret(token.strip())
     if not token or not token.isascii() or len(token) > LONGEST_TOKEN or any(it <= " " for it in token):
         raise ValueError(f"an access token has letters, digits and signs of ASCII, {LONGEST_TOKEN} at most, and nothing between them")
     return token

@@ -9,6 +9,8 @@ import struct
 from enum import IntEnum
 from typing import NamedTuple, Optional
 
+from gavyreto.errors import BadAnswer, LoginRefused
+from gavyreto.logins import Hidden
 from gavyreto.packets import (  # noqa: F401  whoever reads messages needs their packets
     DONE_LENGTH as DONE_LENGTH, HEADER as HEADER, LAST as LAST, Bytes as Bytes, Framing as Framing, PacketType as PacketType, header as header,
     length_of as length_of, packet as packet, packets as packets, read_fully as read_fully, read_packet as read_packet,
@@ -101,7 +103,7 @@ LEAST_PACKET_SIZE, FIRST_PACKET_SIZE, GREATEST_PACKET_SIZE = 512, 4096, 32767  #
 VERSION = bytes.fromhex("74000004")  # 7.4, in the order of a LOGINACK
 OTHER_VERSIONS = range(0x70, 0x74)  # the first byte of each before
 MOST_OF_MESSAGE = 512  # bytes of UTF-8 of a message in a line
-TOKEN_REQUIRED = 6  # the option FEDAUTHREQUIRED of a PRELOGIN
+ENCRYPTION, TOKEN_REQUIRED = 1, 6  # the options ENCRYPTION and FEDAUTHREQUIRED of a PRELOGIN
 FED_AUTH, SECURITY_TOKEN = 0x02, 0x01  # a feature of a LOGIN7, and the library that has the token already
 MOST_UNITS = 128  # of a name in a LOGIN7 (MS-TDS, LOGIN7)
 
@@ -111,7 +113,7 @@ MOST_UNITS = 128  # of a name in a LOGIN7 (MS-TDS, LOGIN7)
 def prelogin(encryption: Encryption, is_token: bool = False) -> bytes:
     """The options VERSION and ENCRYPTION, and FEDAUTHREQUIRED if the login is by a token: for each its number, place and length, then
     0xFF, then their bytes."""
-    options = [(0, bytes(6)), (1, bytes([encryption])), *([(TOKEN_REQUIRED, b"\x01")] if is_token else [])]
+    options = [(0, bytes(6)), (ENCRYPTION, bytes([encryption])), *([(TOKEN_REQUIRED, b"\x01")] if is_token else [])]
     table, data, start = b"", b"", 5 * len(options) + 1
     for number, value in options:
         table += struct.pack(">BHH", number, start + len(data), len(value))
@@ -119,23 +121,16 @@ def prelogin(encryption: Encryption, is_token: bool = False) -> bytes:
     return table + b"\xFF" + data
 
 
-def encryption_of(payload: bytes) -> Encryption:
-    """The option ENCRYPTION of a PRELOGIN. Raises ValueError or struct.error if it isn't there, or has another value."""
-    value = option_of(payload, 1)
-    if value is None:
-        raise ValueError("a PRELOGIN without the option ENCRYPTION")
-    return Encryption(value)
-
-
-def option_of(payload: bytes, number: int) -> Optional[int]:
-    """The first byte of an option of a PRELOGIN; None if it isn't there. Raises struct.error."""
+def options_of(payload: bytes) -> dict[int, int]:
+    """The first byte of each option of a PRELOGIN, by the option's number. Raises struct.error."""
+    found: dict[int, int] = {}
     at = 0
     while payload[at:at + 1] not in (b"", b"\xFF"):
         option, place, length = struct.unpack_from(">BHH", payload, at)
-        if option == number and length and place < len(payload):
-            return int(payload[place])
+        if length and place < len(payload):
+            found.setdefault(option, payload[place])
         at += 5
-    return None
+    return found
 
 
 class Login(NamedTuple):
@@ -152,13 +147,16 @@ class Login(NamedTuple):
     packet_size: int
 
 
-def _checked_units(what: str, text: str) -> bytes:
-    """The units of a text. Raises ValueError, which doesn't show the text, if it has half of a surrogate pair, as Python
+def _checked_units(what: str, text: str, most: Optional[int] = None) -> bytes:
+    """The units of a text. Raises ValueError, which doesn't show the text, if it has more than so many, or half of a surrogate pair, as Python
     reads bytes that aren't UTF-8."""
     try:
-        return text.encode("utf-16-le")
+        units = Hidden(text.encode("utf-16-le"))
     except UnicodeEncodeError:
         raise ValueError(f"the {what} isn't UTF-8") from None
+    if most and len(units) > 2 * most:
+        raise ValueError(f"the {what} has more than {most} characters")
+    return units
 
 
 def _disguised(units: bytes) -> bytes:
@@ -175,31 +173,29 @@ _FIXED = 94  # bytes of a LOGIN7 before its texts
 def login(asked: Login, process: int, ticket: bytes = b"", token: Optional[bytes] = None, echoes: bool = False) -> bytes:
     """A LOGIN7 of version 7.4: with a ticket, by which the login is integrated, or a token and whether that was required. Raises ValueError
     if a text is too long, or no Unicode."""
-    fixed, data = bytearray(_FIXED), b""
-    for place, name, text in zip(PLACES, asked._fields, asked):
-        units = _checked_units(name, str(text))
-        if len(units) > 2 * MOST_UNITS:
-            raise ValueError(f"the {name} has more than {MOST_UNITS} characters")
+    found = {name: _checked_units(name, text, MOST_UNITS) for name, text in asked._asdict().items() if isinstance(text, str)}
+    fixed, data = bytearray(_FIXED), Hidden()
+    for place, (name, units) in zip(PLACES, found.items()):
         struct.pack_into("<HH", fixed, place, _FIXED + len(data), len(units) // 2)
-        data += _disguised(units) if name == "password" else units
+        data = Hidden(data + (_disguised(units) if name == "password" else units))
     for place in (56, 78, 82, 86):  # texts that aren't there
         struct.pack_into("<HH", fixed, place, _FIXED + len(data), 0)
     if ticket:
         struct.pack_into("<H", fixed, 80, min(len(ticket), 0xFFFF))
         struct.pack_into("<I", fixed, 90, len(ticket) if len(ticket) >= 0xFFFF else 0)
-        data += ticket
+        data = Hidden(data + ticket)
     if token is not None:
         struct.pack_into("<HH", fixed, 56, _FIXED + len(data), 4)
-        data += struct.pack("<I", _FIXED + len(data) + 4) + _feature_of(token, echoes)
+        data = Hidden(data + struct.pack("<I", _FIXED + len(data) + 4) + _feature_of(token, echoes))
     struct.pack_into("<I4sIIII", fixed, 0, _FIXED + len(data), VERSION[::-1], asked.packet_size, 0, process, 0)
     struct.pack_into("<BBBBiI", fixed, 24, 0xE0, 0x83 if ticket else 0x03, 0, 0 if token is None else 0x10, 0, 0x0409)
-    return bytes(fixed) + data
+    return Hidden(bytes(fixed) + data)
 
 
 def _feature_of(token: bytes, echoes: bool) -> bytes:
     """The one feature of a login by a token: FEDAUTH by security token, with the token (MS-TDS, LOGIN7, FEDAUTH)."""
-    data = bytes([SECURITY_TOKEN << 1 | echoes]) + struct.pack("<I", len(token)) + token
-    return struct.pack("<BI", FED_AUTH, len(data)) + data + b"\xFF"
+    data = Hidden(bytes([SECURITY_TOKEN << 1 | echoes]) + struct.pack("<I", len(token)) + token)
+    return Hidden(struct.pack("<BI", FED_AUTH, len(data)) + data + b"\xFF")
 
 
 def statement(text: str) -> bytes:
@@ -236,17 +232,9 @@ class Accepted(NamedTuple):
     is_done: bool = True  #: False if that is all, and the client has to go on
 
 
-class Refused(Exception):
-    """A server refused a login. The line is that of its ERROR."""
-
-
-class OtherVersion(Exception):
-    """A server speaks another version of TDS, which is named."""
-
-
 def read_login_answer(payload: bytes) -> Accepted:
-    """Reads the answer to a login. Raises `Refused` or `OtherVersion`; or ValueError, IndexError or struct.error if it is no such
-    answer."""
+    """Reads the answer to a login. Raises LoginRefused, or BadAnswer for another version of TDS; or ValueError, IndexError or struct.error
+    if it is no such answer."""
     size, routed, acknowledged, ticket, at = FIRST_PACKET_SIZE, None, False, b"", 0
     while True:
         if ticket and at == len(payload) and not acknowledged:
@@ -260,11 +248,11 @@ def read_login_answer(payload: bytes) -> Accepted:
                 raise ValueError(f"an answer to a login whose end is none: DONE 0x{length:04x}")
             return Accepted(size, routed, ticket)
         if token == Token.ERROR:
-            raise Refused(error_line(body))
+            raise LoginRefused(error_line(body))
         if token == Token.LOGIN_ACK:
             acknowledged = body[1:5] == VERSION
             if not acknowledged and len(body) >= 5 and body[1] in OTHER_VERSIONS:
-                raise OtherVersion(f"7.{body[1] & 0x0F}")
+                raise BadAnswer(f"the server speaks TDS 7.{body[1] & 0x0F}, and TDS 7.4 is spoken here")
         elif token == Token.ENV_CHANGE and body[0] == Change.PACKET_SIZE:
             size = int(body[2:2 + 2 * body[1]].decode("utf-16-le"))
         elif token == Token.ENV_CHANGE and body[0] == Change.ROUTING:

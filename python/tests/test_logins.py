@@ -180,7 +180,7 @@ class Tokens(Live):
 
     def test_tokens_that_are_none(self) -> None:
         cases: list[tuple[str, dict[str, str], int]] = [
-            ("--access-token-file nothere", {}, 5), ("", {"SQLCMDACCESSTOKEN": "geheim two"}, 2), ("", {"SQLCMDACCESSTOKEN": "geheimü"}, 2),
+            ("--access-token-file nothere", {}, 5), (f"--access-token-file {'geheim' * 100}", {}, 5), ("", {"SQLCMDACCESSTOKEN": "geheim two"}, 2), ("", {"SQLCMDACCESSTOKEN": "geheimü"}, 2),
             ("", {"SQLCMDACCESSTOKEN": "geheim" * 8000}, 2), ("-E --access-token-file token", {}, 2), ("-U x --access-token-file token", {}, 2),
         ]
         for words, variables, status in cases:

@@ -34,8 +34,8 @@ from gavyreto.commands.common import (
     STANDARD_INPUT, STANDARD_OUTPUT, Input, Once, Stopped, add_options_of_program, cause_of, check_input, checked_program, is_one_file, named, naming, needed, number_in, parser_of,
     tell_all,
 )
-from gavyreto.connection import Secret, Session
-from gavyreto.logins import LONGEST_TOKEN
+from gavyreto.connection import Session
+from gavyreto.logins import LONGEST_TOKEN, Secret
 from gavyreto.places import Opened, Places
 from gavyreto.program import DONE, FAILED, REFUSED, SERVER_ERROR, Ending, Program
 from gavyreto.where import PORT, Where, where
@@ -184,7 +184,7 @@ def ask(asked: argparse.Namespace, statements: Iterator[str], password: str) -> 
             output.close(False)
 
 
-def ask_tables(asked: argparse.Namespace, password: str) -> int:
+def ask_tables(asked: argparse.Namespace, of_environment: str) -> int:
     """Sends the statements of a file, each with a text under its name. Returns the greatest status."""
     from gavyreto import outcomes, tables
 
@@ -195,7 +195,7 @@ def ask_tables(asked: argparse.Namespace, password: str) -> int:
         encoded(item.statement)
         if any(is_one_file(os.path.join(asked.output, name), source) for name in outcomes.texts_of(item.name)):
             raise Stopped(f"{asked.tables} would be the text of {item.name}: name another folder", REFUSED)
-    password = password or password_of(asked)
+    password = password_of(asked, of_environment)
     asked.options = f"-S {asked.server.host},{asked.server.port or asked.server.instance or PORT} -d {asked.database} --charset {asked.charset}{' --adapt' if asked.adapt else ''}"
     return tables.export(asked, items, lambda: session_of(asked, password))
 
@@ -375,15 +375,15 @@ def wrong_in(asked: argparse.Namespace) -> str:
     return ""
 
 
-def password_of(asked: argparse.Namespace) -> str:
-    """The password, from the terminal, or none for a login without one."""
-    return Secret() if asked.integrated or asked.token else asked_password(asked.user)
+def password_of(asked: argparse.Namespace, of_environment: str) -> str:
+    """The password: that of the environment, or from the terminal; none for a login without one."""
+    return Secret() if asked.integrated or asked.token else of_environment or asked_password(asked.user)
 
 
 def token_of(asked: argparse.Namespace, of_environment: str) -> Optional[str]:
-    """The access token that is asked for, from a file or the environment."""
+    """The access token that is asked for, from a file, in place of whose name it may stand itself, or from the environment."""
     if asked.access_token_file:
-        with naming(asked.access_token_file), open(asked.access_token_file, encoding="ascii", errors="replace") as file:
+        with naming("--access-token-file"), open(asked.access_token_file, encoding="ascii", errors="replace") as file:
             return Secret(file.read(LONGEST_TOKEN + 2))  # a line end too
     return of_environment or None if not asked.user and not asked.integrated else None
 
@@ -415,8 +415,7 @@ def run(words: list[str]) -> int:
         needed(STANDARD_OUTPUT)
     asked.output = os.path.abspath(asked.output) if asked.tables else asked.output
     asked.program = checked_program(asked.program)
-    given = "" if asked.integrated or asked.token else password
     if asked.tables:
-        return ask_tables(asked, given)
+        return ask_tables(asked, password)
     statements = statements_of(asked)
-    return ask(asked, statements, given or password_of(asked))
+    return ask(asked, statements, password_of(asked, password))
