@@ -43,14 +43,8 @@ class Error(Exception):
         self.rows = 0
 
     def __reduce__(self) -> tuple[Any, ...]:
-        return _restored, (type(self), self.args, self.__dict__)
-
-
-def _restored(kind: type[Error], args: tuple[Any, ...], state: dict[str, Any]) -> Error:
-    """The copy of an error that pickle makes, whatever its constructor takes."""
-    error = kind.__new__(kind, *args)
-    error.__dict__.update(state)
-    return error
+        """How pickle copies an error, whatever its constructor takes."""
+        return Exception.__new__, (type(self), *self.args), self.__dict__
 
 
 FAULT = re.compile(

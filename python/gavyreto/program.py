@@ -22,9 +22,9 @@ PACKET_SIZE_ASKED = 8000  # of a server, as .NET asks for
 COLUMN_ROOM = 1048576
 MAX_WIRE = 2**40
 CHARSETS = ("windows-1252", "utf-8")
-REPORT = re.compile(r"sets (\d+) rows (\d+) errors (\d+) infos (\d+) written (\d+)", re.ASCII)
-RETURN_VALUES = re.compile(r"return values (\d+)", re.ASCII)
-RETURN_STATUS = re.compile(r"return status (-?\d+)", re.ASCII)
+REPORT = re.compile(  # all lines of a response that was read to its end
+    r"sets (\d+) rows (\d+) errors (\d+) infos (\d+) written (\d+)\n(?:return values (?P<values>\d+)\n)?(?:return status (?P<status>-?\d+)\n)?"
+    rf"(?:(?P<error>{LINE_OF_ERROR.pattern})\n)?", re.ASCII)
 RESPONSES = re.compile(r"^responses \d+\n\Z", re.ASCII | re.MULTILINE)
 F_SETPIPE_SZ, ROOM_OF_PIPE = 1031, 1 << 20  # of Linux
 ROOM_OF_FEW = 4096  # bytes that each pipe has room for at once
@@ -49,21 +49,15 @@ Said = Union[Report, Fault, ServerError, None]
 def report_of(notes: str) -> Said:
     """What the lines of a run say: a report, with an error of the server or without one, or a fault. None if they say
     something else."""
-    lines = notes.split("\n")
-    if lines.pop() != "" or not lines:
+    if notes.endswith("\n") and FAULT.fullmatch(notes[:-1]):
+        return Fault(notes[:-1])
+    found = REPORT.fullmatch(notes)
+    if not found:
         return None
-    if len(lines) == 1 and FAULT.fullmatch(lines[0]):
-        return Fault(lines[0])
-    counts = REPORT.fullmatch(lines.pop(0))
-    values = RETURN_VALUES.fullmatch(lines[0]) if lines else None
-    lines = lines[1:] if values else lines
-    status = RETURN_STATUS.fullmatch(lines[0]) if lines else None
-    lines = lines[1:] if status else lines
-    if not counts or len(lines) > 1 or lines and not LINE_OF_ERROR.fullmatch(lines[0]):
-        return None
-    sets, rows, errors, infos, written = map(int, counts.groups())
-    report = Report(sets, rows, errors, infos, written, int(values[1]) if values else 0, int(status[1]) if status else None)
-    return ServerError(lines[0], report) if lines else report
+    sets, rows, errors, infos, written = map(int, found.groups()[:5])
+    values, status, error = found.group("values", "status", "error")
+    report = Report(sets, rows, errors, infos, written, int(values or 0), int(status) if status else None)
+    return ServerError(error, report) if error else report
 
 
 def written_by(said: Union[Report, Fault, ServerError]) -> int:

@@ -3,7 +3,7 @@ from __future__ import annotations
 
 import contextlib
 import re
-import select
+import selectors
 import socket
 import time
 from typing import Any, NamedTuple, Optional
@@ -91,35 +91,30 @@ def port_of(addresses: list[Any], instance: str, until: float) -> int:
     name = instance.encode("utf-8")
     if len(name) > LONGEST_INSTANCE or not name.isascii():
         raise ValueError(f"the name of an instance has at most {LONGEST_INSTANCE} characters, of ASCII")
-    sockets: list[socket.socket] = []
-    try:
+    with contextlib.ExitStack() as held, selectors.PollSelector() as asked:
         for family, _, _, _, address in addresses:
             with contextlib.suppress(OSError):
-                sockets.append(socket.socket(family, socket.SOCK_DGRAM))
-                sockets[-1].connect((address[0], BROWSER, *address[2:]))
+                connected = held.enter_context(socket.socket(family, socket.SOCK_DGRAM))
+                connected.connect((address[0], BROWSER, *address[2:]))
+                asked.register(connected, selectors.EVENT_READ, connected)
         while (left := until - time.monotonic()) > 0:
-            answer = _asked(sockets, b"\x04" + name + b"\0", min(left, ASK_ANEW))
+            answer = _asked(asked, b"\x04" + name + b"\0", min(left, ASK_ANEW))
             if answer:
                 return port_in(answer, instance)
-        raise TimeoutError
-    finally:
-        for it in sockets:
-            it.close()
+    raise TimeoutError
 
 
-def _asked(sockets: list[socket.socket], request: bytes, seconds: float) -> bytes:
-    """The first answer that comes from one of some addresses, or none within so many seconds."""
-    for it in sockets:
+def _asked(asked: selectors.BaseSelector, request: bytes, seconds: float) -> bytes:
+    """The first answer that comes by one of some sockets, or none within so many seconds."""
+    for key in asked.get_map().values():
         with contextlib.suppress(OSError):
-            it.send(request)
-    until, events, asked = time.monotonic() + seconds, select.poll(), {it.fileno(): it for it in sockets}
-    for descriptor in asked:
-        events.register(descriptor, select.POLLIN)
+            key.data.send(request)
+    until = time.monotonic() + seconds
     while (left := until - time.monotonic()) > 0:
-        ready = [asked[descriptor] for descriptor, _ in events.poll(left * 1000)]
-        for it in ready:
+        ready = asked.select(left)
+        for key, _ in ready:
             with contextlib.suppress(OSError):  # nobody listens there
-                return it.recv(LONGEST_ANSWER)
+                return bytes(key.data.recv(LONGEST_ANSWER))
         if ready:
             time.sleep(min(left, 0.05))
     return b""
