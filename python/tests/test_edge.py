@@ -2,18 +2,20 @@
 from __future__ import annotations
 
 import argparse
+import fcntl
 import os
 import socket
 import stat
 import struct
 import subprocess
 import sys
+import termios
 import threading
 import time
 import unittest
 from collections.abc import Callable
 from concurrent.futures import ThreadPoolExecutor
-from typing import Any
+from typing import IO, Any, cast
 from unittest import mock
 
 import gavyreto
@@ -22,7 +24,7 @@ from gavyreto.where import OF_URL, Where
 from gavyreto.commands.query import arguments, server
 from gavyreto.connection import Channel
 from gavyreto.tds import PacketType
-from tests.beside import ORDERS, SECONDS, Live, answered, ask_port, command_for, listening, log_in, responses, saying_goodbye, served, started
+from tests.beside import ORDERS, SECONDS, Live, answered, ask_port, command_for, listening, log_in, responses, saying_goodbye, served, started, wait_for
 
 ORDERED = answered(*responses.order_rows(0), served.done())
 REPORT = f"sets 1 rows 3 errors 0 infos 0 written {len(ORDERS)}"
@@ -366,7 +368,9 @@ class Endings(Live):
         for number, name in ((15, "SIGTERM"), (1, "SIGHUP")):
             own: dict[str, Any] = started() | {"stdin": subprocess.PIPE}
             run = subprocess.Popen([sys.executable, "-m", "gavyreto", "columns"], stdout=subprocess.PIPE, stderr=subprocess.PIPE, **own)
-            time.sleep(1)  # in which it has begun to read
+            pipe = cast(IO[bytes], run.stdin).fileno()
+            os.write(pipe, b"\x04")
+            wait_for(lambda: fcntl.ioctl(pipe, termios.FIONREAD, bytes(4)) == bytes(4))  # it has read it, and waits for more
             run.send_signal(number)
             self.assertEqual((run.communicate(timeout=SECONDS)[1].decode(), run.returncode), (f"ended by {name}\n", 128 + number))
 
