@@ -7,6 +7,7 @@ from __future__ import annotations
 
 import contextlib
 import fcntl
+import gc
 import os
 import random
 import re
@@ -127,6 +128,7 @@ class Folder:
 
     def status_of(self, words: list[str]) -> int:
         """The status of a command in this process, which has no other descriptors then."""
+        gc.freeze()  # what is left of other tests is none of the command's
         try:
             for number, own in self.descriptors.items():
                 os.dup2(own, number)
