@@ -70,7 +70,7 @@ pub(crate) fn has_long(units: u16x8) -> bool
 pub(crate) fn are_plain(units: u16x8) -> bool
     ensures { result ≡ true → Each1 (λ u. is_wide u ≡ false) units }
 {
-    if (units & u16x8::splat(0xFF80)).reduce_or() != 0 {
+    if has_long(units) || (units & u16x8::splat(0xFF80)).reduce_or() != 0 {
         return false;
     }
     units.simd_eq(u16x8::splat(0x22)).to_bitmask() == 0

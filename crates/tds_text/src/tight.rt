@@ -12,7 +12,7 @@ use crate::fields::{Content, close_quoted};
 use crate::framing::QUOTE;
 use crate::lanes::{BLOCK, LANES, WIDE};
 use crate::lanes_utf16::{MANY_UNITS, UNITS, units_of, wide_units};
-use crate::utf16::{convert_ascii, convert_whole, convert_within};
+use crate::utf16::{convert_ascii, convert_mixed, convert_whole};
 use crate::{utf8, windows_1252};
 use std::simd::prelude::*;
 
@@ -41,7 +41,7 @@ fn convert_utf16(bytes: &[u8], to: &mut [u8]) -> Option<usize>
     let first = put_units(to, 0, front, some)?;
     let second = put_units(to, first, u8x16::from_slice(&bytes[2 * some..]), few - some)?;
     let plain = convert_ascii(bytes, 2 * few, bytes.len(), to, second);
-    let run = convert_within(bytes, plain.used, to, plain.made);
+    let run = convert_mixed::<false>(bytes, plain.used, to, plain.made);
     let (rest, room) = (&bytes[run.used..], &mut to[run.made..]);
     if rest.len() + rest.len() / 2 + LANES > room.len() {
         return None;

@@ -1,5 +1,5 @@
 // Characters of text in UTF-16.
-ghost use Rattle.std.specs.Prelude.{◌≡◌, ◌||◌, ◌+◌, ◌-◌, ◌*◌, ◌<◌, ◌≤◌, ◌%◌, ◌++◌, false, length, take, drop, slice_index, MatchOption, IfSome};
+ghost use Rattle.std.specs.Prelude.{◌≡◌, ◌||◌, ◌+◌, ◌-◌, ◌*◌, ◌<◌, ◌≤◌, ◌%◌, ◌++◌, false, true, length, min, take, drop, slice_index, if◌then◌else◌, MatchOption, IfSome};
 ghost use Rattle.std.specs.Simd.Lanes.{Each1, chunk};
 ghost use Rattle.std.specs.Char.{encode_utf8};
 ghost use Rattle.std.specs.Char.Utf16.{is_high_surrogate, is_low_surrogate};
@@ -13,7 +13,8 @@ use crate::beyond_ascii::put_units;
 use crate::encode::{put_lanes, put_quoted};
 use crate::lanes::{BLOCK, LANES, WIDE, first_set};
 use crate::lanes_utf16::{
-    MANY_UNITS, UNITS, all_low_bytes, are_all_plain, are_many_plain, surrogate_units, units_of,
+    MANY_UNITS, UNITS, all_low_bytes, are_all_plain, are_many_plain, are_plain, low_bytes,
+    surrogate_units, units_of,
 };
 use std::simd::prelude::*;
 use tds_values::Span;
@@ -244,19 +245,65 @@ fn convert_full(bytes: &[u8], last: usize, from: usize, to: &mut [u8], start: us
     Span { used: at, made }
 }
 
-// Goes on with the text by eight units, as long as none is a surrogate and there is room for any text of eight.
+// Whether there is room for any text of eight units from a place on. `ROOMY` says that there is.
 #[inline(always)]
-pub(crate) fn convert_within(bytes: &[u8], from: usize, to: &mut [u8], start: usize) -> Span
+fn has_room<const ROOMY: bool>(to: &[u8], made: usize) -> bool
+    requires within { made ≤ length to.now }
+    requires roomy { ROOMY ≡ true → made + 3 * UNITS + LANES ≤ length to.now }
+    ensures room { result ≡ true → made + 3 * UNITS + LANES ≤ length to.now }
+    ensures other { result ≡ false → length to.now < made + 3 * UNITS + LANES }
+{
+    ROOMY || to.len() - made >= 3 * UNITS + LANES
+}
+
+// Where characters of ASCII end at the latest, for which there is a byte of room each. `ROOMY` says that there is for all.
+#[inline(always)]
+fn plain_end<const ROOMY: bool>(bytes: &[u8], at: usize, to: &[u8], made: usize) -> usize
+    requires within { (at ≤ length bytes.now) × (made ≤ length to.now) }
+    requires roomy { ROOMY ≡ true → length bytes.now - at + 2 * made ≤ 2 * length to.now }
+    ensures within { (at ≤ result) × (result ≤ length bytes.now) }
+    ensures room { result - at + 2 * made ≤ 2 * length to.now }
+    ensures ends { result ≡ (if ROOMY then length bytes.now else at + min (length bytes.now - at) (2 * (length to.now - made))) }
+{
+    if ROOMY {
+        return bytes.len();
+    }
+    at + (bytes.len() - at).min(2 * (to.len() - made))
+}
+
+// Goes on with the text by eight units, and by sixteen after eight characters of ASCII without a quote, up to the next surrogate.
+// `ROOMY` says that there is room for any text; it ends otherwise where there isn't for any of eight.
+#[inline(always)]
+pub(crate) fn convert_mixed<const ROOMY: bool>(
+    bytes: &[u8],
+    from: usize,
+    to: &mut [u8],
+    start: usize,
+) -> Span
     requires fits { start ≤ length to.old }
+    requires roomy { ROOMY ≡ true → 3 * length bytes.now + 2 * LANES ≤ 2 * length to.old }
     requires before { Converts bytes.now to.old from start }
+    ensures more { from ≤ result.used }
     ensures fits { result.made ≤ length to.old }
     ensures whole { result.used % 2 ≡ from % 2 }
     ensures after { Converts bytes.now to.new result.used result.made }
 {
     let mut at = from;
     let mut made = start;
-    while bytes.len() - at >= LANES && to.len() - made >= 3 * UNITS + LANES {
+    if bytes.len() - at < LANES {
+        return Span { used: at, made };
+    }
+    let last = bytes.len() - LANES;
+    while at <= last && has_room::<ROOMY>(to, made) {
         let lanes = u8x16::from_slice(&bytes[at..]);
+        if are_plain(units_of(lanes)) {
+            put_lanes(to, made, low_bytes(lanes), UNITS);
+            let end = plain_end::<ROOMY>(bytes, at + LANES, to, made + UNITS);
+            let run = convert_plain(bytes, at + LANES, end, to, made + UNITS);
+            at = run.used;
+            made = run.made;
+            continue;
+        }
         let Some(end) = put_units(to, made, lanes, UNITS) else {
             break;
         };
@@ -350,7 +397,7 @@ fn convert_from(bytes: &[u8], source: &[u8], after: Span, to: &mut [u8]) -> Span
     }
 }
 
-// Writes the text of the first units of long data, as `convert_blocks` does.
+// Writes the text of the first units of a long piece, as `convert_blocks` does.
 #[inline(always)]
 fn convert_front(bytes: &[u8], to: &mut [u8]) -> Span
     requires room { length bytes.now ≤ 2 * length to.old }
@@ -395,15 +442,15 @@ fn convert_last(bytes: &[u8], source: &[u8], after: Span, to: &mut [u8]) -> usiz
     put_quoted(to, done.made, 0xFFFD)
 }
 
-// Goes on with the text of whole data, and returns its length. A high surrogate at the end has no partner.
+// Ends the text of whole data after a run up to the first surrogate, and returns its length. A high surrogate at the end has no
+// partner.
 #[inline(always)]
-fn convert_rest(bytes: &[u8], source: &[u8], after: Span, to: &mut [u8]) -> usize
+fn convert_end(bytes: &[u8], source: &[u8], run: Span, to: &mut [u8]) -> usize
     requires whole { length bytes.now % 2 ≡ 0 }
-    requires before { ConvertsIn bytes.now source.now to.old after.used after.made }
+    requires before { ConvertsIn bytes.now source.now to.old run.used run.made }
     ensures short { 2 * result ≤ 3 * length bytes.now }
     ensures text { take result to.new ≡ utf16.text bytes.now }
 {
-    let run = convert_run(bytes, source, after.used, to, after.made);
     if run.used == bytes.len() {
         return run.made;
     }
@@ -419,10 +466,12 @@ pub(crate) fn convert_whole(bytes: &[u8], source: &[u8], to: &mut [u8]) -> usize
     ensures short { 2 * result ≤ 3 * length bytes.now }
     ensures text { take result to.new ≡ utf16.text bytes.now }
 {
-    convert_rest(bytes, source, Span { used: 0, made: 0 }, to)
+    let run = convert_run(bytes, source, 0, to, 0);
+    convert_end(bytes, source, run, to)
 }
 
-// Writes the text of long data as `convert_whole` does.
+// Writes the text of long data as `convert_whole` does: by 32 units as long as all are characters of ASCII, by the units that are left
+// over when eight are taken at a time, and then by eight and by sixteen in turn.
 #[inline(always)]
 pub(crate) fn convert_long(bytes: &[u8], source: &[u8], to: &mut [u8]) -> usize
     requires source { LiesIn bytes.now source.now }
@@ -432,7 +481,10 @@ pub(crate) fn convert_long(bytes: &[u8], source: &[u8], to: &mut [u8]) -> usize
     ensures text { take result to.new ≡ utf16.text bytes.now }
 {
     let front = convert_blocks(bytes, 0, bytes.len(), to, 0);
-    convert_rest(bytes, source, front, to)
+    let few = (bytes.len() - front.used) / 2 % UNITS;
+    let some = convert_some(bytes, source, front.used, to, front.made, few);
+    let run = convert_mixed::<true>(bytes, some.used, to, some.made);
+    convert_end(bytes, source, run, to)
 }
 
 /// Writes the text of whole data of at most eight units, which are the first of these lanes, and returns its length.

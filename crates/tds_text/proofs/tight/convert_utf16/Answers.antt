@@ -24,7 +24,7 @@ take_put a k n xs ys within few = grind (N.arith, N.length-take-le, N.take-appen
 
 pub returns-clause-text : goal.returns-clause-text
 returns-clause-text c =
-    let run = c.convert_within-run in
+    let run = c.convert_mixed-run in
     let to = run.new.to in
     let more = rw (N.UsualText.rest_of) at c.convert_whole.ensures.text in
     let all = N.Utf16Steps.whole_after run.ensures.after c.requires.whole (omega N.arith) in

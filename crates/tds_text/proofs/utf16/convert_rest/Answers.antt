@@ -1,5 +1,0 @@
-use Rattle.tds_text.proofs as N
-use N.utf16.convert_rest.Goals as goal
-
-pub returns-then-run-bytes-clause-text : goal.returns-then-run-bytes-clause-text
-returns-then-run-bytes-clause-text c = N.Utf16Steps.whole_there c.convert_run-run.ensures.after c.if-run-bytes.true c.requires.whole
