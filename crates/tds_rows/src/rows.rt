@@ -22,6 +22,7 @@ ghost use Rattle.tds_cells.specs.RowFormats.{BeginsRow, Knows, KnowsSome};
 ghost use Rattle.tds_values.specs.Kind as kinds;
 
 use crate::cell::gathered::{gather_scalar, refusal};
+use crate::cell::lengths::cut_content;
 use crate::cell::streamed::stream_long;
 use crate::nbc::Marks;
 use std::io::{Read, Write};
@@ -139,8 +140,12 @@ impl<'r, 't, 'p, 's, 'c, R: Read, W: Write> Rows<'r, 't, 'p, 's, 'c, R, W> {
         requires { IsAtCell self.old at format.now }
         ensures { CellRead R.remaining W.contents at.entry format.now.kind self.old self.new result }
     {
-        let mut text = [0u8; CELL_SCRATCH];
         let bytes = self.payload.buffered();
+        if let Some(content) = cut_content(format, bytes) {
+            let last = self.row_format.is_last(at);
+            return self.put_joined(content, Reach::Short, at.column, last);
+        }
+        let mut text = [0u8; CELL_SCRATCH];
         match self.row_format.write_one(at, format, bytes, &mut text) {
             Ok(cell) => {
                 self.payload.consume(cell.used);

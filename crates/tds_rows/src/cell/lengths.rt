@@ -1,5 +1,7 @@
 // The lengths and totals of long values (MS-TDS, Partially Length-prefixed Bytes).
-ghost use Rattle.std.specs.Prelude.{◌≡◌, ◌==◌, ◌||◌, ◌%◌, ◌-◌, ◌^◌, ◌≤◌, ◌<◌, None, Some, MatchResult, if◌then◌else◌, nat_le};
+ghost use Rattle.std.specs.Prelude.{◌≡◌, ◌==◌, ◌||◌, ◌%◌, ◌+◌, ◌-◌, ◌^◌, ◌≤◌, ◌<◌, length, None, Some, IfSome, MatchResult, if◌then◌else◌, nat_le};
+ghost use Rattle.byteorder.specs.Endian.{little_number};
+ghost use Rattle.tds_cells.specs.declared.layout.Layout.TheVariants.{Short};
 ghost use Rattle.tds_packet.specs.Payloads.{IsGoing, LeavesPayload, seen};
 ghost use Rattle.tds_rows.specs.LongCells.{CutsBytes, LengthTaken, ReadsNumber, chunk_length_fault, end_fault};
 ghost use Rattle.tds_cells.specs.Cells.{known_total, unless};
@@ -7,8 +9,9 @@ ghost use Rattle.tds_packet.specs.declared.fault.Fault.TheVariants.{OddText};
 
 use byteorder::{ByteOrder, LittleEndian};
 use std::io::Read;
-use tds_cells::{NULL_LENGTH, NULL_TOTAL, UNKNOWN_TOTAL};
+use tds_cells::{CellFormat, Layout, NULL_LENGTH, NULL_TOTAL, UNKNOWN_TOTAL};
 use tds_packet::{Fault, Payload, Stop};
+use tds_text::Content;
 
 // Reads a number of `size` bytes, the lowest first.
 #[inline(always)]
@@ -25,6 +28,24 @@ fn read_number<R: Read>(payload: &mut Payload<R>, size: usize) -> Result<u64, St
     let mut bytes = [0u8; 8];
     payload.fill(&mut bytes[..size])?;
     Ok(LittleEndian::read_uint(&bytes[..size], size))
+}
+
+/// What a short value holds that isn't NULL, and whose cell isn't whole in these bytes. `None` for any other cell.
+pub(crate) fn cut_content(format: &CellFormat, bytes: &[u8]) -> Option<Content>
+    ensures short { IfSome result (λ content. format.now.layout ≡ Short content) }
+    ensures cut { IfSome result (λ _. 2 ≤ length bytes.now → length bytes.now < 2 + little_number 2 bytes.now) }
+{
+    let Layout::Short(content) = format.layout else {
+        return None;
+    };
+    if bytes.len() < 2 {
+        return Some(content);
+    }
+    let n = LittleEndian::read_u16(bytes);
+    if u64::from(n) == NULL_LENGTH || bytes.len() >= 2 + n as usize {
+        return None;
+    }
+    Some(content)
 }
 
 /// Reads the length of a short value, whose data has units of `unit` bytes. `None` if it is NULL.

@@ -15,12 +15,22 @@ returns-in-Ok g c =
     }
 
 -- a long value is that of its kind
+pub returns-in-Some : goal.returns-in-Some
+returns-in-Some g c =
+    let arm = c.in-Some.ensures in
+    record {
+      leaves = c.put_joined.ensures.leaves;
+      cell =
+          let start = N.sym (ap (N.cell_start c.args.format.now.kind) (rw arm.short at c.requires.laid)) in
+          rw start at (rw c.is_last-last.ensures at c.put_joined.ensures.field);
+    }
+
 pub returns-in-Err-Long : goal.returns-in-Err-Long
 returns-in-Err-Long g c =
     let arm = c.in-Err-Long in
     record {
-      leaves = c.put_joined.ensures.leaves;
+      leaves = c.put_joined-in-Err-Long.ensures.leaves;
       cell =
           let start = N.sym (ap (N.cell_start c.args.format.now.kind) (rw arm.field-0-is at arm.ensures.left)) in
-          rw start at (rw (arm.content-is, arm.reach-is, c.is_last-last.ensures) at c.put_joined.ensures.field);
+          rw start at (rw (arm.content-is, arm.reach-is, c.is_last-last-in-Err-Long.ensures) at c.put_joined-in-Err-Long.ensures.field);
     }
