@@ -29,7 +29,7 @@ class Connection(Single, contextlib.AbstractContextManager["Connection"]):
     def __init__(self, session: Session) -> None:
         self._session = session
         self._answer: Optional[Answer] = None  # to the last statement
-        self._program: Optional[Program] = None
+        self._program = Program([PROGRAM])
         self._lock = threading.Lock()
 
     def __exit__(self, kind: object, *_: object) -> None:
@@ -42,7 +42,7 @@ class Connection(Single, contextlib.AbstractContextManager["Connection"]):
         finally:
             if answer is None or answer.is_left or answer.is_whole:  # else a call reads from it, and closes all of it
                 self._session.close()
-            if self._program and (answer is None or answer.is_whole):  # else it was closed with the answer, or will be
+            if answer is None or answer.is_whole:  # else it was closed with the answer, or will be
                 self._program.close()
 
     def close(self) -> None:
@@ -66,21 +66,13 @@ class Connection(Single, contextlib.AbstractContextManager["Connection"]):
             check_dates(dates)
             check_type(str, statement=statement)
             check_type(bool, adapt=adapt)
-            run = self._run_of(command_of(program, self._session.packet_size, column_room, max_wire, charset))
-            run.begin()
+            self._program.command = command_of(program, self._session.packet_size, column_room, max_wire, charset)
+            self._program.begin()
             self._session.send(statement)
-            self._answer = Answer(self._session, run, dates, charset if adapt else None)
+            self._answer = Answer(self._session, self._program, dates, charset if adapt else None)
             return self._answer
         finally:
             self._lock.release()
-
-    def _run_of(self, command: list[str]) -> Program:
-        """The program with these arguments, which goes on from answer to answer."""
-        if self._program is None or self._program.command != command:
-            if self._program:
-                self._program.close()
-            self._program = Program(command)
-        return self._program
 
     # Python's DB-API (PEP 249).
 
@@ -97,8 +89,7 @@ class Connection(Single, contextlib.AbstractContextManager["Connection"]):
         self._ask("IF @@TRANCOUNT > 0 ROLLBACK TRANSACTION")
 
     def _ask(self, statement: str) -> None:
-        program = self._program.command[0] if self._program else PROGRAM
-        for _ in self.query(statement, program=program):
+        for _ in self.query(statement, program=self._program.command[0]):
             pass
 
 

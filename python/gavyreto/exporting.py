@@ -119,19 +119,27 @@ def _text_of(source: int, waiting: str, name: str, run: Program, adapts: Optiona
 
 # The programs, one a thread.
 
-_running = threading.local()
 _all: list[Program] = []
 
 
+class _Running(threading.local):
+    """The program that a thread runs, and its version."""
+
+    def __init__(self) -> None:
+        self.program, self.version = Program([]), ""
+        _all.append(self.program)
+
+
+_running = _Running()
+
+
 def running(command: list[str]) -> tuple[Program, str]:
-    """The program with these arguments that this thread runs, of the file that the program is at the moment, and its version."""
-    wanted = (command, version_of(command[0]))
-    if getattr(_running, "wanted", None) != wanted:
-        if getattr(_running, "program", None):
-            _running.program.close()
-        _running.program, _running.wanted = Program(command), wanted
-        _all.append(_running.program)
-    return _running.program, wanted[1]
+    """The program of this thread, with these arguments, and of the file that it is at the moment, and its version."""
+    version = version_of(command[0])
+    if version != _running.version:
+        _running.program.close()
+    _running.program.command, _running.version = command, version
+    return _running.program, version
 
 
 def kill_all() -> None:

@@ -200,13 +200,13 @@ class Program(contextlib.AbstractContextManager["Program"]):
         program.hand(packets, output)  # as often as there are some
         ending = program.finish(output)
 
-    It runs from the first response on; after a fault, a signal or a response that was cut the next one starts it anew. Whoever hands
-    over takes the text meanwhile, so neither side waits for the other, however long they are. By `put`, which waits for room alone,
-    one thread can hand over while another one takes the text by `read`. Of a `source`, a descriptor, it reads one response by itself,
-    and nothing is handed over. A context that ends it."""
+    It runs from the first response on; after a fault, a signal or a response that was cut, or with other arguments, the next one starts it
+    anew. Whoever hands over takes the text meanwhile, so neither side waits for the other, however long they are. By `put`, which waits
+    for room alone, one thread can hand over while another one takes the text by `read`. Of a `source`, a descriptor, it reads one
+    response by itself, and nothing is handed over. A context that ends it."""
 
     def __init__(self, command: list[str], source: Optional[int] = None) -> None:
-        self.command = command  #: without --all
+        self.command = command  #: without --all, from the next response on
         self._source = source
         self.ending: Optional[Ending] = None  #: of the response, once all of its text is taken
         self.is_reading = False  #: whether it reads the response on, as far as is known
@@ -232,7 +232,7 @@ class Program(contextlib.AbstractContextManager["Program"]):
 
     def begin(self) -> None:
         """Begins a response. Raises OSError if the program can't be started."""
-        if self._process and (self._is_under_way() or not self.is_reading or self._process.poll() is not None):
+        if self._process and (self._is_under_way() or not self.is_reading or self._process.args != self._words() or self._process.poll() is not None):
             self.close()
         if self._process is None:
             self._start()
@@ -244,10 +244,9 @@ class Program(contextlib.AbstractContextManager["Program"]):
         self._drop_pipe()
         if not self._nothing and self._source is None:
             self._nothing.append(os.open(os.devnull, os.O_WRONLY | os.O_CLOEXEC))
-        words = self.command if self._source is not None else [*self.command[:2], "--all", *self.command[2:]]
         process = subprocess.Popen(
-            words, bufsize=0, stdin=subprocess.PIPE if self._source is None else self._source, stdout=subprocess.PIPE, stderr=subprocess.PIPE,
-            start_new_session=True)
+            self._words(), bufsize=0, stdin=subprocess.PIPE if self._source is None else self._source, stdout=subprocess.PIPE,
+            stderr=subprocess.PIPE, start_new_session=True)
         self._text, self._notes = (cast("IO[bytes]", it).fileno() for it in (process.stdout, process.stderr))
         self._open = {self._text, self._notes}
         for pipe in filter(None, (process.stdin, process.stdout)):
@@ -260,6 +259,9 @@ class Program(contextlib.AbstractContextManager["Program"]):
         if process.stdin:  # which Python would warn of if it were collected before this
             drop = weakref.finalize(self, process.stdin.close)
             drop.atexit, self._drop_pipe = False, drop
+
+    def _words(self) -> list[str]:
+        return self.command if self._source is not None else [*self.command[:2], "--all", *self.command[2:]]
 
     def _is_under_way(self) -> bool:
         return self.ending is None and (self._handed > 0 or self._source is not None)

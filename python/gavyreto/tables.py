@@ -88,7 +88,7 @@ class Worker:
     def __init__(self, asked: argparse.Namespace, connect: Connect, is_stopped: threading.Event, session: Optional[Session] = None) -> None:
         self._asked, self._connect, self._is_stopped = asked, connect, is_stopped
         self._session = session
-        self._run: Optional[Program] = None
+        self._run = Program([])
         self.has_unasked = False  # whether something came behind an answer whose outcome was told already
 
     def export(self, item: Item) -> Outcome:
@@ -111,7 +111,9 @@ class Worker:
         try:
             with begun(waiting, *texts_of(item.name)) as out:
                 session = self._open_session()
-                ending = self._asking(session).answer(item.statement, program.Output(out.fileno()))
+                self._run.command = command_for(self._asked, session.packet_size)
+                asking = Asking(session, self._run, self._asked.charset if self._asked.adapt else None)
+                ending = asking.answer(item.statement, program.Output(out.fileno()))
                 os.fsync(out.fileno())
                 is_decided = ending.status in (DONE, SERVER_ERROR, BAD_INPUT)
                 record.status, record.written = ending.status, os.fstat(out.fileno()).st_size
@@ -154,15 +156,6 @@ class Worker:
         except ConnectionFailed as failure:
             raise Broken(str(failure), FAILED) from None
 
-    def _asking(self, session: Session) -> Asking:
-        """What asks on a connection."""
-        command = command_for(self._asked, session.packet_size)
-        if self._run is None or self._run.command != command:
-            if self._run:
-                self._run.close()
-            self._run = Program(command)
-        return Asking(session, self._run, self._asked.charset if self._asked.adapt else None)
-
     def end(self) -> None:
         """Ends the connection, once all items are asked."""
         try:
@@ -179,8 +172,7 @@ class Worker:
     def close(self) -> None:
         if self._session:
             self._session.close()
-        if self._run:
-            self._run.close()
+        self._run.close()
 
 
 # All of them.
