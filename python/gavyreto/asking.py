@@ -111,8 +111,7 @@ class Asking:
             ended, status = common.ending_of(failure)
             kind = Broken if isinstance(failure, ConnectionFailed) and not isinstance(failure, TimedOut) else Stopped
             raise kind(ended if status == BAD_INPUT else ending.line_after(ended), status)
-        if wrong and ending.status in (DONE, SERVER_ERROR, BAD_INPUT):
-            return ending._replace(status=BAD_INPUT, notes=ending.line_after(wrong) + "\n")
+        ending = ending.refused(wrong)
         if ending.status == DONE and session.unfinished:
             return ending._replace(status=SERVER_ERROR, notes=f"{ending.notes}{session.unfinished}\n")
         return ending

@@ -13,7 +13,7 @@ from gavyreto import program, tds
 from gavyreto.adapting import hand_over
 from gavyreto.commands.common import cause_of
 from gavyreto.outcomes import begun, texts_of, waiting_in
-from gavyreto.program import BAD_INPUT, BLOCK, CHANGED, DONE, FAILED, SERVER_ERROR, Output, OutputFailed, Program
+from gavyreto.program import BAD_INPUT, BLOCK, CHANGED, DECIDED, DONE, FAILED, SERVER_ERROR, Output, OutputFailed, Program
 
 DIGITS = 16  # of the digest of a program that are kept
 MORE = "more is behind the response, which isn't read: gavyreto capture reads all that a server sent"
@@ -74,7 +74,7 @@ def _exported(file: str, waiting: str, command: list[str], adapts: Optional[str]
             return Outcome(file, FAILED, f"cannot read {file}: no regular file")
         run, version = running(command)
         ending, written, framing, left = _text_of(source, waiting, os.path.basename(file), run, adapts)
-        if ending.status not in (DONE, SERVER_ERROR, BAD_INPUT):
+        if ending.status not in DECIDED:
             return Outcome(file, ending.status, ending.line)
         if stamp_of(os.fstat(source)) != stamp_of(found):
             return Outcome(file, FAILED, f"{file}: {CHANGED}")
@@ -107,13 +107,11 @@ def _text_of(source: int, waiting: str, name: str, run: Program, adapts: Optiona
             wrong = hand_over(following, lambda data: run.hand(data, output), adapts)
             if wrong or not framing.is_over:
                 run.cut()
-            ending = run.finish(output)
+            ending = run.finish(output).refused(wrong)
         except OutputFailed as failed:
             run.close()
             raise OSError(failed.failure.errno, failed.failure.strerror, waiting) from None
         os.fsync(out.fileno())
-        if wrong and ending.status in (DONE, SERVER_ERROR, BAD_INPUT):
-            ending = ending._replace(status=BAD_INPUT, line=ending.line_after(wrong))
         return ending, os.fstat(out.fileno()).st_size, framing, bool(os.read(source, 1))
 
 

@@ -16,7 +16,7 @@ from unicodedata import normalize
 from gavyreto.commands import common
 from gavyreto.commands.common import STANDARD_ERROR, Stopped, cause_of, is_one_file, line, rename, tell, write
 from gavyreto.places import mode_of
-from gavyreto.program import BAD_INPUT, DONE, FAILED, REFUSED, SERVER_ERROR
+from gavyreto.program import BAD_INPUT, DECIDED, DONE, FAILED, REFUSED, SERVER_ERROR
 from gavyreto.records import record_at
 from gavyreto.values import value_of
 
@@ -210,7 +210,7 @@ def remove_unfinished(folder: str) -> None:
 def summed(what: str, records: Sequence[tuple[str, Record]], shown: str) -> int:
     """Says which failed first, by the names that are given, and how many ended in each way, and returns the greatest status."""
     statuses = [record.status for _, record in records]
-    counts = [statuses.count(status) for status in (DONE, SERVER_ERROR, BAD_INPUT)]
+    counts = [statuses.count(status) for status in DECIDED]
     done, errors, refused = counts
     if first := next(((name, it) for name, it in records if it.status not in (DONE, SERVER_ERROR)), None):
         tell(f"{first[0]}: {first[1].line}; {shown} has a line for each")

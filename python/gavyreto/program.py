@@ -37,6 +37,7 @@ BEGINNING = b"\x04"  # of a packet of an answer
 
 # Exit statuses; all but the last are those of tds_replay.
 DONE, REFUSED, SERVER_ERROR, BAD_INPUT, FAILED, NO_MEMORY, INTERRUPTED = 0, 2, 3, 4, 5, 6, 130
+DECIDED = (DONE, SERVER_ERROR, BAD_INPUT)  # by a response itself
 OF_SIGNAL = 128  # is added to the number of a signal
 OF_DEVICES = ("ReadFailed", "WriteFailed")  # faults with the status FAILED
 
@@ -85,6 +86,13 @@ class Ending(NamedTuple):
     def line_after(self, line: str) -> str:
         """One line, of what happened and what the program says to it."""
         return ": ".join(it for it in (line, self.line) if it)
+
+    def refused(self, why: str) -> Ending:
+        """The same, of a response that can't be followed for a reason, if there is one, unless something else failed."""
+        if not why or self.status not in DECIDED:
+            return self
+        line = self.line_after(why)
+        return self._replace(status=BAD_INPUT, line=line, notes=line + "\n")
 
 
 def judged(status: Optional[int], notes: str, length: Optional[int] = None) -> Ending:

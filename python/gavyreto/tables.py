@@ -18,7 +18,7 @@ from gavyreto.connection import UNASKED, Session
 from gavyreto.errors import BadAnswer, CertificateRefused, ConnectionFailed, EncryptionRefused, LoginRefused
 from gavyreto.exporting import version_of
 from gavyreto.outcomes import PARTIAL, TABLE, TEXT, Progress, begun, remove_unfinished, summed, texts_of, waiting_in
-from gavyreto.program import BAD_INPUT, DONE, FAILED, INTERRUPTED, REFUSED, SERVER_ERROR, Program
+from gavyreto.program import BAD_INPUT, DECIDED, DONE, FAILED, INTERRUPTED, REFUSED, SERVER_ERROR, Program
 
 LONGEST_STATEMENT = 100_000  # characters
 LONGEST_NAME = 255 - len(PARTIAL)  # bytes
@@ -115,7 +115,7 @@ class Worker:
                 asking = Asking(session, self._run, self._asked.charset if self._asked.adapt else None)
                 ending = asking.answer(item.statement, program.Output(out.fileno()))
                 os.fsync(out.fileno())
-                is_decided = ending.status in (DONE, SERVER_ERROR, BAD_INPUT)
+                is_decided = ending.status in DECIDED
                 record.status, record.written = ending.status, os.fstat(out.fileno()).st_size
                 record.line = ending.notes.rstrip("\n").split("\n")[0 if ending.status == DONE else -1]
             if not item.is_table:

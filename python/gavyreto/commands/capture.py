@@ -42,7 +42,7 @@ from gavyreto.commands.common import (
     SIGNALS, Changed, Input, Progress, Stopped, add_options_of_program, cause_of, check_input, checked_program, command_for, folder_of_texts, line, number_in, parser_of, put, rename, tell,
 )
 from gavyreto.payload import Ended
-from gavyreto.program import BAD_INPUT, FAILED, REFUSED, SERVER_ERROR, Ending, OutputFailed
+from gavyreto.program import BAD_INPUT, DECIDED, FAILED, REFUSED, SERVER_ERROR, Ending, OutputFailed
 from gavyreto.tds import PacketType
 
 HEADER = ("text", "client", "server", "time", "statement", "status", "line")
@@ -141,7 +141,7 @@ class Export:
         self._count(status)
 
     def _count(self, status: int) -> None:
-        self.worst = max(self.worst, status if status in (0, SERVER_ERROR, BAD_INPUT) else FAILED)
+        self.worst = max(self.worst, status if status in DECIDED else FAILED)
 
 
 def moment_of(time: int) -> Optional[str]:
