@@ -1,97 +1,84 @@
 """One response from its file to a text that waits for its name: the work of `many`, here or on another machine."""
 from __future__ import annotations
 
-import contextlib
 import functools
 import hashlib
 import os
 import stat
 import threading
-from typing import NamedTuple, Optional
+from dataclasses import dataclass
+from typing import IO, Optional
 
-from gavyreto import program, tds
+from gavyreto import outcomes, program, tds
 from gavyreto.adapting import hand_over
 from gavyreto.commands.common import cause_of
-from gavyreto.outcomes import begun, texts_of, waiting_in
-from gavyreto.program import BAD_INPUT, BLOCK, CHANGED, DECIDED, DONE, FAILED, SERVER_ERROR, Output, OutputFailed, Program
+from gavyreto.program import BAD_INPUT, BLOCK, CHANGED, DECIDED, DONE, FAILED, SERVER_ERROR, Output, Program
 
 DIGITS = 16  # of the digest of a program that are kept
 MORE = "more is behind the response, which isn't read: gavyreto capture reads all that a server sent"
 
 
-class Stamp(NamedTuple):
-    """What tells a file from another one of its name: its bytes, the times in nanoseconds of its last write and of its last change, which
-    nobody can set, and its inode."""
-
-    size: int
-    time: int
-    change: int
-    inode: int
+Stamp = tuple[int, int, int, int]
 
 
 def stamp_of(found: os.stat_result) -> Stamp:
-    return Stamp(found.st_size, found.st_mtime_ns, found.st_ctime_ns, found.st_ino)
+    """What tells a file from another one of its name: its bytes, the times in nanoseconds of its last write and of its last change, which
+    nobody can set, and its inode."""
+    return found.st_size, found.st_mtime_ns, found.st_ctime_ns, found.st_ino
 
 
-class Outcome(NamedTuple):
-    """How the export of a file ended: the status of the program and its first line, or what went wrong. If the response itself
-    decided it, the text waits at `waiting` for its name, and has `written` bytes."""
+@dataclass
+class Record(outcomes.Record):
+    """A line of the table: how the export of a file ended, which it has the path of, and what it was made of: the stamp of the file, options,
+    and name, version and digest of the program."""
 
-    file: str
-    status: int
-    line: str
-    waiting: Optional[str] = None
-    written: int = 0
-    stamp: Stamp = Stamp(0, 0, 0, 0)  #: of the file
-    program: str = ""  #: its name, version and digest
+    size: int = 0
+    time: int = 0
+    change: int = 0
+    inode: int = 0
+    options: str = ""
+    program: str = ""
 
-
-def export_file(file: str, folder: str, command: list[str], adapts: Optional[str]) -> Outcome:
-    """Exports a file by the program to a text in a folder, with refused columns rewritten if a character set is given for them. One that
-    failed leaves nothing."""
-    waiting = waiting_in(folder)
-    outcome = Outcome(file, FAILED, "interrupted")
-    try:
-        outcome = _exported(file, waiting, command, adapts)
-    except OSError as failure:
-        outcome = Outcome(file, FAILED, f"{failure.filename or folder}: {cause_of(failure)}")
-    finally:
-        if outcome.waiting is None:
-            with contextlib.suppress(OSError):
-                os.remove(waiting)
-    return outcome
+    def stamp(self) -> Stamp:
+        return self.size, self.time, self.change, self.inode
 
 
-def _exported(file: str, waiting: str, command: list[str], adapts: Optional[str]) -> Outcome:
-    """The same. Raises OSError if something besides the file can't be read or written."""
+def export_file(file: str, folder: str, command: list[str], adapts: Optional[str]) -> Record:
+    """Exports a file by the program to a text that waits in a folder for its name, with refused columns rewritten if a character set is given
+    for them. One that failed leaves no text."""
+    record = Record(file, FAILED, "interrupted")
     try:
         source = os.open(file, os.O_RDONLY | os.O_NONBLOCK)  # of a pipe that nobody writes to
     except OSError as failure:
-        return Outcome(file, FAILED, f"cannot read {file}: {cause_of(failure)}")
+        record.line = f"cannot read {file}: {cause_of(failure)}"
+        return record
     try:
-        found = os.fstat(source)
-        if not stat.S_ISREG(found.st_mode):
-            return Outcome(file, FAILED, f"cannot read {file}: no regular file")
-        run, version = running(command)
-        ending, written, framing, left = _text_of(source, waiting, os.path.basename(file), run, adapts)
-        if ending.status not in DECIDED:
-            return Outcome(file, ending.status, ending.line)
-        if stamp_of(os.fstat(source)) != stamp_of(found):
-            return Outcome(file, FAILED, f"{file}: {CHANGED}")
-        if version_of(command[0]) != version:
-            return Outcome(file, FAILED, f"{command[0]}: it changed while it ran")
-        if ending.status != BAD_INPUT and left:
-            ending = ending._replace(status=BAD_INPUT, line=f"{ending.line}; {MORE}")
-        unfinished = tds.unfinished(framing.tail) if ending.status == DONE else None
-        status, line = (SERVER_ERROR, unfinished) if unfinished else (ending.status, ending.line)
-        return Outcome(file, status, line, waiting, written, stamp_of(found), version)
+        if stat.S_ISREG(os.fstat(source).st_mode):
+            outcomes.make_text(record, os.path.basename(file), folder, lambda out: _export(source, out, record, command, adapts))
+        else:
+            record.line = f"cannot read {file}: no regular file"
     finally:
         os.close(source)
+    return record
 
 
-def _text_of(source: int, waiting: str, name: str, run: Program, adapts: Optional[str]) -> tuple[program.Ending, int, tds.Framing, bool]:
-    """How the program ends on the response at the beginning of a file, the bytes of its text, which is on the disk, and whether the file
-    goes on behind it."""
+def _export(source: int, out: IO[bytes], record: Record, command: list[str], adapts: Optional[str]) -> None:
+    """Exports a file that is open, and notes in its record how that ended, and the text if the response itself decided it."""
+    stamp, (run, version) = stamp_of(os.fstat(source)), running(command)
+    ending = _ending_of(source, Output(out.fileno()), run, adapts)
+    if ending.status not in DECIDED:
+        record.status, record.line = ending.status, ending.line
+    elif stamp_of(os.fstat(source)) != stamp:
+        record.line = f"{record.name}: {CHANGED}"
+    elif version_of(command[0]) != version:
+        record.line = f"{command[0]}: it changed while it ran"
+    else:
+        record.status, record.line, record.text, record.program = ending.status, ending.line, out.name, version
+        record.size, record.time, record.change, record.inode = stamp
+
+
+def _ending_of(source: int, output: Output, run: Program, adapts: Optional[str]) -> program.Ending:
+    """How the program ends on the response at the beginning of a file, which may have nothing behind it."""
     framing = tds.Framing()
 
     def following() -> bytes:
@@ -100,19 +87,15 @@ def _text_of(source: int, waiting: str, name: str, run: Program, adapts: Optiona
         os.lseek(source, taken - len(block), os.SEEK_CUR)
         return block[:taken]
 
-    with begun(waiting, *texts_of(name)) as out:
-        output = Output(out.fileno())
-        run.begin()
-        try:
-            wrong = hand_over(following, lambda data: run.hand(data, output), adapts)
-            if wrong or not framing.is_over:
-                run.cut()
-            ending = run.finish(output).refused(wrong)
-        except OutputFailed as failed:
-            run.close()
-            raise OSError(failed.failure.errno, failed.failure.strerror, waiting) from None
-        os.fsync(out.fileno())
-        return ending, os.fstat(out.fileno()).st_size, framing, bool(os.read(source, 1))
+    run.begin()
+    wrong = hand_over(following, lambda data: run.hand(data, output), adapts)
+    if wrong or not framing.is_over:
+        run.cut()
+    ending = run.finish(output).refused(wrong)
+    if ending.status in (DONE, SERVER_ERROR) and os.read(source, 1):
+        return ending._replace(status=BAD_INPUT, line=f"{ending.line}; {MORE}")
+    unfinished = tds.unfinished(framing.tail) if ending.status == DONE else None
+    return ending._replace(status=SERVER_ERROR, line=unfinished) if unfinished else ending
 
 
 # The programs, one a thread.

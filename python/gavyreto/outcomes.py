@@ -10,13 +10,13 @@ import time
 from dataclasses import dataclass, fields
 from functools import partial, reduce
 from operator import and_
-from typing import IO, Any, Collection, Generic, Optional, Sequence, TypeVar
+from typing import IO, Any, Callable, Collection, Generic, Optional, Sequence, TypeVar
 from unicodedata import normalize
 
 from gavyreto.commands import common
 from gavyreto.commands.common import STANDARD_ERROR, Stopped, cause_of, is_one_file, line, rename, tell, write
 from gavyreto.places import mode_of
-from gavyreto.program import BAD_INPUT, DECIDED, DONE, FAILED, REFUSED, SERVER_ERROR
+from gavyreto.program import BAD_INPUT, DECIDED, DONE, FAILED, REFUSED, SERVER_ERROR, OutputFailed
 from gavyreto.records import record_at
 from gavyreto.values import value_of
 
@@ -35,9 +35,9 @@ class Record:
     name: str
     status: int
     line: str
-    text: Optional[str]
-    written: int
-    text_change: int  #: the time at which the text last changed, in nanoseconds since 1970, which nobody can set
+    text: Optional[str] = None  #: its name in the folder; the path of a file until it gets that
+    written: int = 0
+    text_change: int = 0  #: the time at which the text last changed, in nanoseconds since 1970, which nobody can set
 
 
 R = TypeVar("R", bound=Record)
@@ -135,10 +135,10 @@ class Table(Generic[R]):
         """The name of the table, from the folder that the command runs in."""
         return os.path.relpath(self._path)
 
-    def add(self, record: R, name: str, waiting: Optional[str]) -> R:
+    def add(self, record: R, name: str) -> None:
         """Gives the text that waits its name, if one does, takes away the one that was there before, and writes the line: that of a
-        failure if the text can't have its name. Returns it. Raises `Stopped` if the table can't be written, or isn't what was written."""
-        if waiting:
+        failure if the text can't have its name. Raises `Stopped` if the table can't be written, or isn't what was written."""
+        if waiting := record.text:
             record.text = texts_of(name)[record.status == BAD_INPUT]
             try:
                 target = os.path.join(self._folder, record.text)
@@ -154,7 +154,6 @@ class Table(Generic[R]):
                 os.remove(os.path.join(self._folder, other))
         self._write(_line_of(record))
         self.records[record.name] = record
-        return record
 
 
 def texts_of(name: str) -> tuple[str, str]:
@@ -194,9 +193,23 @@ class Progress(common.Progress):
         self.show(lambda seconds: f"{self._done} of {self._count} {self._what}, {failed} refused or failed, {seconds:.0f} seconds")
 
 
-def waiting_in(folder: str) -> str:
-    """The path of a text that waits for its name, which no other thread, process or machine has."""
-    return os.path.join(folder, f"{socket.gethostname()}.{os.getpid()}.{threading.get_ident()}.{time.monotonic_ns()}{UNFINISHED}")
+def make_text(record: Record, name: str, folder: str, make: Callable[[IO[bytes]], object]) -> None:
+    """Has a call write the text of a record, by the name of what it is of. The text waits for its own, on the disk, if the record has it
+    then, or it is removed. What else can't be read or written is the line of the record."""
+    waiting = f"{socket.gethostname()}.{os.getpid()}.{threading.get_ident()}.{time.monotonic_ns()}{UNFINISHED}"  # no other thread or machine has it
+    path = os.path.join(folder, waiting)
+    try:
+        with begun(path, *texts_of(name)) as out:
+            make(out)
+            os.fsync(out.fileno())
+            record.written = os.fstat(out.fileno()).st_size if record.text else 0
+    except (OSError, OutputFailed) as failed:
+        failure = failed.failure if isinstance(failed, OutputFailed) else failed
+        record.status, record.line, record.text = FAILED, f"{failure.filename or folder}: {cause_of(failure)}", None
+    finally:
+        if not record.text:
+            with contextlib.suppress(OSError):
+                os.remove(path)
 
 
 def remove_unfinished(folder: str) -> None:

@@ -9,15 +9,15 @@ import re
 import threading
 import time
 from dataclasses import dataclass
-from typing import Callable, Generator, Iterable, NamedTuple, Optional, Union
+from typing import IO, Callable, Generator, Iterable, NamedTuple, Optional, Union
 
 from gavyreto import outcomes, program
 from gavyreto.asking import Asking, Broken
-from gavyreto.commands.common import Stopped, cause_of, command_for, ending_of, folder_of_texts, tell
+from gavyreto.commands.common import Stopped, command_for, ending_of, folder_of_texts, tell
 from gavyreto.connection import UNASKED, Session
 from gavyreto.errors import BadAnswer, CertificateRefused, ConnectionFailed, EncryptionRefused, LoginRefused
 from gavyreto.exporting import version_of
-from gavyreto.outcomes import PARTIAL, TABLE, TEXT, Progress, begun, remove_unfinished, summed, texts_of, waiting_in
+from gavyreto.outcomes import PARTIAL, TABLE, TEXT, Progress, remove_unfinished, summed
 from gavyreto.program import BAD_INPUT, DECIDED, DONE, FAILED, INTERRUPTED, REFUSED, SERVER_ERROR, Program
 
 LONGEST_STATEMENT = 100_000  # characters
@@ -72,13 +72,10 @@ def _wrong_in(name: str, rest: str) -> str:
 class Record(outcomes.Record):
     """A line of the table: how the export of a statement ended, and what it was made of."""
 
-    time: int  #: at which it was begun, in nanoseconds since 1970
-    statement: str
-    options: str
-    program: str
-
-
-Outcome = tuple[Record, Optional[str]]  # how the export of an item ended, and the text that waits for its name if the answer itself decided it
+    time: int = 0  #: at which it was begun, in nanoseconds since 1970
+    statement: str = ""
+    options: str = ""
+    program: str = ""
 
 
 class Worker:
@@ -91,53 +88,43 @@ class Worker:
         self._run = Program([])
         self.has_unasked = False  # whether something came behind an answer whose outcome was told already
 
-    def export(self, item: Item) -> Outcome:
+    def export(self, item: Item) -> Record:
         """Exports an answer. Raises what ends all of them: a login that was refused."""
-        record = Record(item.name, FAILED, "interrupted", None, 0, 0, time.time_ns(), item.statement, self._asked.options, self._asked.version)
+        record = Record(
+            item.name, FAILED, "interrupted", time=time.time_ns(), statement=item.statement, options=self._asked.options, program=self._asked.version)
         for attempt in range(self._asked.retries + 1):
             if attempt > 1:
                 self._is_stopped.wait(min(2 ** (attempt - 2), MOST_PAUSE))
             try:
-                return record, self._exported(item, record)
+                outcomes.make_text(record, item.name, self._asked.output, lambda out: self._ask(item, record, out))
+                return record
             except Broken as broken:
                 record.line = str(broken)
+            finally:
+                if self._session and not (record.text and self._session.is_ready()):
+                    self._session.close()
             if self._is_stopped.is_set():
                 break
-        return record, None
+        return record
 
-    def _exported(self, item: Item, record: Record) -> Optional[str]:
-        """The same, once, with the text that waits. Raises `Broken` if the connection breaks, or can't be made."""
-        waiting, is_decided = waiting_in(self._asked.output), False
+    def _ask(self, item: Item, record: Record, out: IO[bytes]) -> None:
+        """Asks once, and notes in the record how that ended, and the text if the answer itself decided it. Raises `Broken` if the connection
+        breaks, or can't be made."""
         try:
-            with begun(waiting, *texts_of(item.name)) as out:
-                session = self._open_session()
-                self._run.command = command_for(self._asked, session.packet_size)
-                asking = Asking(session, self._run, self._asked.charset if self._asked.adapt else None)
-                ending = asking.answer(item.statement, program.Output(out.fileno()))
-                os.fsync(out.fileno())
-                is_decided = ending.status in DECIDED
-                record.status, record.written = ending.status, os.fstat(out.fileno()).st_size
-                record.line = ending.notes.rstrip("\n").split("\n")[0 if ending.status == DONE else -1]
+            session = self._open_session()
+            self._run.command = command_for(self._asked, session.packet_size)
+            asking = Asking(session, self._run, self._asked.charset if self._asked.adapt else None)
+            ending = asking.answer(item.statement, program.Output(out.fileno()))
+            record.status, record.text = ending.status, out.name if ending.status in DECIDED else None
+            record.line = ending.notes.rstrip("\n").split("\n")[0 if ending.status == DONE else -1]
             if not item.is_table:
                 session.end()  # what it set would hold for what is asked next, as SET ROWCOUNT
             elif session.is_ready():
                 session.expect_nothing()
-        except program.OutputFailed as failed:
-            record.line = f"{self._asked.output}: {cause_of(failed.failure)}"
-        except OSError as failure:
-            is_decided, record.written = False, 0
-            record.status, record.line = FAILED, f"{failure.filename or self._asked.output}: {cause_of(failure)}"
         except Broken:
             raise
         except (BadAnswer, Stopped) as ended:
             record.line, record.status = ending_of(ended)
-        finally:
-            if self._session and not (is_decided and self._session.is_ready()):
-                self._session.close()
-            if not is_decided:
-                with contextlib.suppress(OSError):
-                    os.remove(waiting)
-        return waiting if is_decided else None
 
     def _open_session(self) -> Session:
         """The connection, or a new one if there is none on which an answer would count. Raises `Broken` if it can't be made."""
@@ -182,11 +169,11 @@ class Workers:
 
     def __init__(self, asked: argparse.Namespace, connect: Connect, first: Session) -> None:
         self._is_stopped = threading.Event()
-        self._done: queue.SimpleQueue[Union[Outcome, BaseException, None]] = queue.SimpleQueue()
+        self._done: queue.SimpleQueue[Union[Record, BaseException, None]] = queue.SimpleQueue()
         self._workers = [Worker(asked, connect, self._is_stopped, None if number else first) for number in range(asked.jobs)]
         self._threads: list[threading.Thread] = []
 
-    def outcomes(self, items: list[Item]) -> Generator[Outcome, None, None]:
+    def outcomes(self, items: list[Item]) -> Generator[Record, None, None]:
         """The outcomes, as they come. What ends a thread is raised once the others have stopped."""
         left = iter(items)
         lock = threading.Lock()
@@ -243,8 +230,9 @@ def export(asked: argparse.Namespace, items: list[Item], connect: Connect) -> in
         table.begin(names, names)
         progress, failed = Progress("tables", len(items), 0), 0
         try:
-            for record, waiting in stack.enter_context(contextlib.closing(workers.outcomes(items))):
-                failed += table.add(record, record.name, waiting).status not in (DONE, SERVER_ERROR)
+            for record in stack.enter_context(contextlib.closing(workers.outcomes(items))):
+                table.add(record, record.name)
+                failed += record.status not in (DONE, SERVER_ERROR)
                 progress.step(failed)
         except KeyboardInterrupt:
             raise Stopped("interrupted: begun again all are asked again", INTERRUPTED) from None

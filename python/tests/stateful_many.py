@@ -17,7 +17,7 @@ from hypothesis import HealthCheck, settings
 from hypothesis import strategies as st
 from hypothesis.stateful import RuleBasedStateMachine, precondition, rule, run_state_machine_as_test
 
-from gavyreto import outcomes, program, tds
+from gavyreto import exporting, outcomes, program, tds
 from gavyreto.commands import common, many
 from tests.beside import PROGRAM, answered, responses, served, wire
 from tests.stopping import Stop
@@ -132,7 +132,7 @@ class Folder(RuleBasedStateMachine):
         assert not [name for name in os.listdir(self.out) if name.endswith(".unfinished")]
         self.texts = dict(self.files)
 
-    def lines(self) -> list[many.Record]:
+    def lines(self) -> list[exporting.Record]:
         return [*many.Table(self.out, "", "").records.values()]
 
     @precondition(lambda self: bool(self.files))

@@ -18,7 +18,7 @@ import unittest
 from collections.abc import Callable, Iterator
 from unittest import mock
 
-from gavyreto import outcomes, program, tds
+from gavyreto import exporting, outcomes, program, tds
 from gavyreto.commands import many
 from gavyreto.commands.common import Stopped, checked_program, folder_of_texts
 from tests import test_adapt
@@ -415,8 +415,8 @@ class Here(Many):
 
     def test_a_table_that_is_cut_or_damaged(self) -> None:
         """Of one that is cut anywhere the whole lines count; one that lacks a byte elsewhere, or has another, keeps its lines or is none."""
-        records = [many.Record(f"/in/{name}", 0, "sets 1", f"{name}.csv", 5, 6, 1, 2, 3, 4, "--x", "p") for name in ("a", 'b"\r\nc', "d")]
-        table = outcomes.Table(self.path("in"), many.Record, "file")
+        records = [exporting.Record(f"/in/{name}", 0, "sets 1", f"{name}.csv", 5, 6, 1, 2, 3, 4, "--x", "p") for name in ("a", 'b"\r\nc', "d")]
+        table = outcomes.Table(self.path("in"), exporting.Record, "file")
         lines = [table._header, *map(outcomes._line_of, records)]
         whole, ends, is_refused = b"".join(lines), [*itertools.accumulate(map(len, lines))], 0
         for at in range(ends[0], ends[-1] + 1):
@@ -559,7 +559,7 @@ class Here(Many):
         command = f"ulimit -f 8; trap '' XFSZ; exec {sys.executable} -m gavyreto many --program {PROGRAM} in out"
         came = subprocess.run(["sh", "-c", command], cwd=self.folder, capture_output=True, check=False, **started())
         self.assertEqual((came.returncode, came.stderr.decode().splitlines()[-1]), (5, "1 responses: 0 done, 0 with an error of the server, 0 refused, 1 failed"))
-        self.assertRegex(self.table()[0][2], r"\.unfinished: File too large$")
+        self.assertEqual(self.table()[0][2], f"{self.path('out')}: File too large")
         self.assert_texts([])
 
     def test_a_full_disk_for_the_table(self) -> None:

@@ -18,34 +18,18 @@ import os
 import re
 import time
 from concurrent.futures import FIRST_COMPLETED, Future, ThreadPoolExecutor, wait
-from dataclasses import dataclass
 from types import TracebackType
 from typing import Any, Iterator, Optional, Union
 
 from gavyreto import outcomes
 from gavyreto.commands.common import STANDARD_ERROR, STREAMS, Stopped, add_options_of_program, cause_of, checked_program, command_for, folder_of_texts, named, number_in, parser_of
-from gavyreto.exporting import Outcome, Stamp, end_all, export_file, kill_all, stamp_of, version_of
+from gavyreto.exporting import Record, end_all, export_file, kill_all, stamp_of, version_of
 from gavyreto.outcomes import TABLE, TEXT, Progress, remove_unfinished, summed, texts_of
 from gavyreto.places import stats_of
 from gavyreto.program import DONE, FAILED, INTERRUPTED, REFUSED, SERVER_ERROR
 
 SECONDS_BETWEEN = 0.05  # two looks at whether exports have ended
 SECONDS_OF_SCHEDULER = 30  # the longest that it may be silent, or that its file is waited for
-
-
-@dataclass
-class Record(outcomes.Record):
-    """A line of the table: the outcome of a file, which it has the path of, and what it was made of."""
-
-    size: int
-    time: int
-    change: int
-    inode: int
-    options: str
-    program: str
-
-    def stamp(self) -> Stamp:
-        return Stamp(self.size, self.time, self.change, self.inode)
 
 
 class Table(outcomes.Table[Record]):
@@ -82,10 +66,10 @@ class Table(outcomes.Table[Record]):
         except OSError:
             return False
 
-    def tell(self, it: Outcome) -> Record:
+    def tell(self, record: Record) -> None:
         """Gives a text its name, and writes the line."""
-        record = Record(it.file, it.status, it.line, None, it.written, 0, *it.stamp, self._options, it.program)
-        return self.add(record, os.path.basename(it.file), it.waiting)
+        record.options = self._options
+        self.add(record, os.path.basename(record.name))
 
 
 def _inodes_of(*paths: Union[str, int]) -> set[tuple[int, int]]:
@@ -126,10 +110,10 @@ class Here(contextlib.nullcontext[None]):
     def version(self, name: str) -> str:
         return version_of(name)
 
-    def outcomes(self, files: list[str], folder: str, command: list[str], adapts: Optional[str]) -> Iterator[Outcome]:
+    def outcomes(self, files: list[str], folder: str, command: list[str], adapts: Optional[str]) -> Iterator[Record]:
         """The outcomes, as they come."""
         with ThreadPoolExecutor(self._jobs) as pool:
-            running: set[Future[Outcome]] = set()
+            running: set[Future[Record]] = set()
             try:
                 for file in files:
                     running.add(pool.submit(export_file, file, folder, command, adapts))
@@ -192,7 +176,7 @@ class Cluster:
         except OSError as failure:
             raise Stopped(f"{name}, on a worker: {cause_of(failure)}", REFUSED) from None
 
-    def outcomes(self, files: list[str], folder: str, command: list[str], adapts: Optional[str]) -> Iterator[Outcome]:
+    def outcomes(self, files: list[str], folder: str, command: list[str], adapts: Optional[str]) -> Iterator[Record]:
         """The outcomes, as they come. A response whose workers or whose scheduler were lost has failed."""
         from distributed import as_completed
 
@@ -201,13 +185,13 @@ class Cluster:
         for future in as_completed(futures):  # type: ignore[no-untyped-call]
             yield self._outcome_of(future, of[future])
 
-    def _outcome_of(self, future: Any, file: str) -> Outcome:
+    def _outcome_of(self, future: Any, file: str) -> Record:
         try:
             failure = future.exception()
-            outcome: Outcome = future.result() if failure is None else Outcome(file, FAILED, f"its worker failed: {failure}")
-            return outcome
+            record: Record = future.result() if failure is None else Record(file, FAILED, f"its worker failed: {failure}")
+            return record
         except (OSError, concurrent.futures.CancelledError):  # of its connection: what a worker raised is returned
-            return Outcome(file, FAILED, f"the scheduler {self._where} was lost")
+            return Record(file, FAILED, f"the scheduler {self._where} was lost")
 
 
 def export_left(files: list[str], asked: argparse.Namespace) -> int:
@@ -222,8 +206,9 @@ def export_left(files: list[str], asked: argparse.Namespace) -> int:
         table.begin({*left}, [os.path.basename(it) for it in left])
         progress, failed = Progress("responses", len(files), len(files) - len(left)), 0
         try:
-            for outcome in place.outcomes(left, asked.out, command, asked.charset if asked.adapt else None):
-                failed += table.tell(outcome).status not in (DONE, SERVER_ERROR)
+            for record in place.outcomes(left, asked.out, command, asked.charset if asked.adapt else None):
+                table.tell(record)
+                failed += record.status not in (DONE, SERVER_ERROR)
                 progress.step(failed)
         finally:
             table.close()
