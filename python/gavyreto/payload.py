@@ -156,8 +156,8 @@ def _chunks(payload: Payload) -> Iterator[bytes]:
 
 # The descriptions alone, which is what a reader of rows wants to know besides: rows are passed over.
 
-def descriptions(payload: Payload) -> Iterator[list[Described]]:
-    """The descriptions of a response, each with columns, in order."""
+def columns_of(payload: Payload) -> Iterator[list[Column]]:
+    """The columns of each set of a response, in order."""
     described: Optional[list[Described]] = None
     ways: list[int] = []
     while payload.has_more():
@@ -165,7 +165,8 @@ def descriptions(payload: Payload) -> Iterator[list[Described]]:
         if byte == Token.COLUMNS:
             described = columns.read_description(payload.need)
             ways = ways_over(described or [])
-            yield from [described] if described else []
+            if described:
+                yield [column.column() for column in described]
         elif byte in (ROW, NBCROW):
             bitmap = payload.need(bytes_of_bitmap(byte, described))
             for _ in chain.from_iterable(cell(payload, column.type) for column in present(bitmap, described or [])):
@@ -265,8 +266,8 @@ class Descriptions:
     def note(self, payload: Payload, most: Optional[int] = None) -> None:
         """Notes the descriptions of a payload, at most so many, as far as it can be followed: the program says what is wrong."""
         try:
-            for described in islice(descriptions(payload), most):
-                self.add([column.column() for column in described])
+            for found in islice(columns_of(payload), most):
+                self.add(found)
         except (ValueError, Ended):
             pass
         finally:
@@ -301,12 +302,12 @@ class LateDescriptions(Descriptions):
 
     def __init__(self, read: Read) -> None:
         super().__init__()
-        self._walk = descriptions(Payload(read))
+        self._walk = columns_of(Payload(read))
 
     def of(self, place: int) -> Optional[list[Column]]:
         try:
             while self._count <= place:
-                self.add([column.column() for column in next(self._walk)])
+                self.add(next(self._walk))
         except (StopIteration, ValueError, Ended, OSError) as failure:
             check_own(failure)
             return None

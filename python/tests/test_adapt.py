@@ -22,7 +22,7 @@ import gavyreto
 from gavyreto import floats, tds
 from gavyreto.adapting import Adapter, variant_text
 from gavyreto.columns import postgresql_type, sqlite_type
-from gavyreto.payload import Ended, Payload, descriptions
+from gavyreto.payload import Ended, Payload, columns_of
 from tests import test_readings
 from tests.beside import PROGRAM, Live, answered, need, responses, served, serving, started, wait_for, wire
 
@@ -465,8 +465,8 @@ class Commands(Live):
             with contextlib.suppress(ValueError, Ended):
                 adapted(bytes(data))
             with contextlib.suppress(ValueError, Ended):
-                for described in descriptions(Payload(io.BytesIO(data).read)):
-                    self.assertTrue(all(isinstance(column.column().type, str) for column in described))
+                for columns in columns_of(Payload(io.BytesIO(data).read)):
+                    self.assertTrue(all(isinstance(column.type, str) for column in columns))
 
     def test_columns(self) -> None:
         came = self.run_command("columns", "sets.tds")

@@ -13,7 +13,7 @@ from io import BufferedReader
 
 from gavyreto.columns import TABLES, Column, create_table
 from gavyreto.commands.common import STANDARD_OUTPUT, Once, Stopped, line, named, needed, open_response, parser_of, put
-from gavyreto.payload import Payload, descriptions
+from gavyreto.payload import Payload, columns_of
 from gavyreto.program import BAD_INPUT, REFUSED
 
 HEADER = ("set", "name", "type", "length", "precision", "scale", "nullable")
@@ -47,7 +47,7 @@ def sets_of(file: BufferedReader) -> list[list[Column]]:
     sets: list[list[Column]] = []
     is_more = True
     while is_more:
-        sets += [[column.column() for column in described] for described in descriptions(Payload(file.read))]
+        sets += columns_of(Payload(file.read))
         is_more = bool(file.peek(1))
     return sets
 
