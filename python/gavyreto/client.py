@@ -167,7 +167,7 @@ class Answer(Response):
         self.owns: Optional[Connection] = None  # the connection that was made for this answer
         self.is_left = False  # whether no more of it is read
         self._session, self._is_begun, self._charset = session, False, adapts
-        super().__init__(program, dates, Descriptions(), adapts=adapts is not None)
+        super().__init__(program, dates, Descriptions(), lambda: session.unfinished, adapts=adapts is not None)
 
     def _read(self, most: int) -> bytes:
         if not self._is_begun:
@@ -186,9 +186,6 @@ class Answer(Response):
         else:
             found = cast(Descriptions, self._descriptions)
             self._feeding = Feeding(partial(_hand_on, self._session, block, self._charset, found, 1 if self._is_only else None), self._program)
-
-    def _unfinished(self) -> Optional[str]:
-        return self._session.unfinished
 
     def _judge_end(self, rest: str) -> None:
         super()._judge_end(rest)

@@ -30,7 +30,7 @@ OF_DESCRIPTORS = (int, io.FileIO, socket.socket)  # read by their descriptors; a
 BUFFERS = (io.BufferedReader, io.BufferedRandom)
 Copy = Callable[[Write], bool]  # whether all packets were there
 SOME = 4096  # bytes that are compared
-Tail = Callable[[], tds.Bytes]  # the end of the payload, once all of it was read
+Unfinished = Callable[[], Optional[str]]  # what there is to say of an answer that the server ended as cancelled or failed
 
 
 class Before:
@@ -69,14 +69,14 @@ class HeldFile:
         self._before.check()
         return data
 
-    def tail(self) -> bytes:
-        """The end of the payload, which is read again from its first packet on. Raises OSError if that may be another one."""
+    def unfinished(self) -> Optional[str]:
+        """What the end of the payload says, which is read again from its first packet on. Raises OSError if that may be another one."""
         framing, at = tds.Framing(), self._start
         while not framing.is_over and (block := os.pread(self.descriptor, BLOCK, at)):
             framing.take(block)
             at += len(block)
         self._before.check()
-        return framing.tail
+        return tds.unfinished(framing.tail)
 
     def close(self) -> None:
         if self.descriptor >= 0:
@@ -124,12 +124,12 @@ class Response(Sets):
     """The result sets of a response, while the program reads it."""
 
     def __init__(
-        self, program: Program, dates: Dates, descriptions: Descriptions, *, copy: Optional[Copy] = None,
-        tail: Optional[Tail] = None, held: Optional[HeldFile] = None, adapts: bool = False,
+        self, program: Program, dates: Dates, descriptions: Descriptions, unfinished: Unfinished, *, copy: Optional[Copy] = None,
+        held: Optional[HeldFile] = None, adapts: bool = False,
     ) -> None:
         self.report: Optional[Report] = None  #: once all is read and the server reported no error
         self.is_whole = False  #: once all is read, whether or not the server reported an error
-        self._program, self._tail, self._held = program, tail, held
+        self._program, self._unfinished, self._held = program, unfinished, held
         self._feeding: Optional[Feeding] = None
         super().__init__(self._read, dates, descriptions, adapts)
         program.begin()
@@ -173,10 +173,6 @@ class Response(Sets):
         if unfinished:
             self._raise(UnfinishedAnswer(unfinished, said))
         self.report = said
-
-    def _unfinished(self) -> Optional[str]:
-        """What there is to say of an answer that the server ended as cancelled or failed. Raises OSError if it may be another one."""
-        return tds.unfinished(bytes(self._tail())) if self._tail else None
 
     def _is_text_of(self, report: Report) -> bool:
         """Whether all of the text was read as the program counts it."""
@@ -230,7 +226,7 @@ def _of_bytes(data: bytes, command: list[str], dates: Dates) -> Response:
         write(data[:end])
         return framing.is_over
 
-    return Response(Program(command), dates, LateDescriptions(io.BytesIO(data).read), copy=copy, tail=lambda: framing.tail)
+    return Response(Program(command), dates, LateDescriptions(io.BytesIO(data).read), lambda: tds.unfinished(framing.tail), copy=copy)
 
 
 def _reading(source: Source) -> tuple[Read, Callable[[], object]]:
@@ -280,7 +276,7 @@ def _of_descriptor(descriptor: int, command: list[str], dates: Dates) -> Respons
     if not stat.S_ISREG(os.fstat(descriptor).st_mode):
         return _fed(descriptor, command, dates)
     held = HeldFile(descriptor)
-    return Response(Program(command, held.descriptor), dates, LateDescriptions(held.read), tail=held.tail, held=held)
+    return Response(Program(command, held.descriptor), dates, LateDescriptions(held.read), held.unfinished, held=held)
 
 
 def _fed(source: Source, command: list[str], dates: Dates, adapts: Optional[str] = None) -> Response:
@@ -295,7 +291,7 @@ def _fed(source: Source, command: list[str], dates: Dates, adapts: Optional[str]
         finally:
             close()
 
-    return Response(Program(command), dates, found, copy=copy, tail=lambda: walked[0].tail, adapts=adapts is not None)
+    return Response(Program(command), dates, found, lambda: tds.unfinished(walked[0].tail), copy=copy, adapts=adapts is not None)
 
 
 def _descriptor_of(source: Any) -> int:
