@@ -219,10 +219,7 @@ class Adapter:
     def _column(self, column: Described) -> Optional[Column]:
         """Writes a column, and returns it as it came, if that is to be noted."""
         new = adapted(column.type, self._charset)
-        if new:
-            self._output.put(column.spelt(new.info))
-        else:
-            self._output.keep(column.spelt())
+        self._write(new)(column.spelt(new.info if new else b""))
         self._adapted.append(new and new._replace(info=b""))
         bare = column._replace(type=column.type._replace(info=b""), spelt_name=b"")  # without what may be long
         cast("list[Described]", self._columns).append(bare)
@@ -237,12 +234,13 @@ class Adapter:
 
     def _value(self, type_: Type, new: Optional[Adapted]) -> None:
         """A value, as it is or converted. What comes of it in pieces is written in pieces."""
-        if new is None:
-            for piece in cell(self._payload, type_):
-                self._output.keep(piece)
-        else:
-            for piece in new.convert(self._payload, type_):
-                self._output.put(piece)
+        write, convert = self._write(new), new.convert if new else cell
+        for piece in convert(self._payload, type_):
+            write(piece)
+
+    def _write(self, new: Optional[Adapted]) -> Write:
+        """What writes the bytes of a type, or of its values: as they came, or others in their place."""
+        return self._output.put if new else self._output.keep
 
     def _whole_rows(self) -> None:
         """Takes the rows that are whole in what was read, if no value of them changes, or floats alone."""
@@ -258,10 +256,7 @@ class Adapter:
         self._output.keep(bytes([Token.RETURN_VALUE]) + head_of_value(self._payload))
         type_ = columns.read_type(self._payload.need)
         new = adapted(type_, self._charset)
-        if new:
-            self._output.put(new.info)
-        else:
-            self._output.keep(bytes([type_.byte]) + type_.info)
+        self._write(new)(new.info if new else type_.spelt())
         self._value(type_, new)
 
 

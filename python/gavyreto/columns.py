@@ -55,6 +55,10 @@ class Type(NamedTuple):
     scale: Optional[int] = None
     name: str = ""  #: of a CLR type: database, schema and type
 
+    def spelt(self) -> bytes:
+        """As a description has it."""
+        return bytes([self.byte]) + self.info
+
     def is_chunked(self) -> bool:
         """Whether its values come in chunks."""
         return self.byte in (DataType.XML, DataType.UDT) or self.byte in LONG and self.length == MAX
@@ -157,7 +161,7 @@ class Described(NamedTuple):
 
     def spelt(self, info: bytes = b"") -> bytes:
         """As a description has it, or with another type, whose byte comes first."""
-        return struct.pack("<IH", self.user_type, self.flags) + (info or bytes([self.type.byte]) + self.type.info) + self.spelt_name
+        return struct.pack("<IH", self.user_type, self.flags) + (info or self.type.spelt()) + self.spelt_name
 
     @property
     def name(self) -> str:

@@ -105,7 +105,7 @@ def rest_of(payload: Payload, byte: int) -> Iterator[bytes]:
     elif byte == Token.RETURN_VALUE:
         yield head_of_value(payload)
         type_ = columns.read_type(payload.need)
-        yield bytes([type_.byte]) + type_.info
+        yield type_.spelt()
         yield from cell(payload, type_)
     else:
         raise ValueError(f"no token of an answer to a statement: 0x{byte:02x}")
