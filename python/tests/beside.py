@@ -51,11 +51,23 @@ def answered(*pieces: bytes) -> bytes:
     return packing.in_packets(b"".join(pieces), 32767)
 
 
+def exported(data: bytes, *words: str) -> tuple[int, bytes]:
+    """What an export by hand gives of a response: the status and the text."""
+    ran = subprocess.run([PROGRAM, "export", "--packet-size", "32767", *words], input=data, capture_output=True, check=False, timeout=SECONDS)
+    return ran.returncode, ran.stdout
+
+
 def need(test: unittest.TestCase, *programs: str) -> None:
     """Skips a test whose programs aren't there; if the variable CI is set, it fails."""
     lacking = [name for name in programs if not shutil.which(name)]
     if lacking:
         skip(test, f"{', '.join(lacking)} isn't there: `make needs` installs it")
+
+
+def need_pymssql(test: unittest.TestCase) -> None:
+    """The same of Python's module pymssql."""
+    if subprocess.run(["/usr/bin/python3", "-c", "import pymssql"], capture_output=True, check=False).returncode != 0:
+        skip(test, "Python's module pymssql isn't there: `make needs` installs it")
 
 
 def skip(test: unittest.TestCase, reason: str) -> None:
@@ -253,12 +265,40 @@ def listening(serve: Callable[[Channel], None]) -> Iterator[int]:
         raise raised[0]
 
 
-def log_in(channel: Channel) -> None:
-    """The server's side of a login that isn't encrypted."""
+@contextlib.contextmanager
+def serving_each(serve: Callable[[socket.socket], None]) -> Iterator[int]:
+    """A server for any number of connections, each of which a function serves in a thread. Gives its port."""
+    def accept() -> None:
+        with contextlib.suppress(OSError):
+            while True:
+                threading.Thread(target=serve, args=(server.accept()[0],), daemon=True).start()
+
+    with socket.create_server(("127.0.0.1", 0)) as server:
+        thread = threading.Thread(target=accept)
+        thread.start()
+        try:
+            yield server.getsockname()[1]
+        finally:
+            server.shutdown(socket.SHUT_RDWR)
+            thread.join()
+
+
+LOGGED_IN = tds.packet(tds.PacketType.ANSWER, served.login_ack("Test") + served.done())
+
+
+def log_in(channel: Channel, answer: bytes = LOGGED_IN) -> None:
+    """The server's side of a login that isn't encrypted, with its answer."""
     channel.read_message()
     channel.write_message(tds.PacketType.ANSWER, tds.prelogin(tds.Encryption.NOT_SUPPORTED))
     channel.read_message()
-    channel.write_message(tds.PacketType.ANSWER, served.login_ack("Test") + served.done())
+    channel.write(answer)
+
+
+def until_closed(channel: Channel) -> None:
+    """Waits for the client's end."""
+    channel.wait()
+    while channel.receive():
+        pass
 
 
 def log_in_encrypted(channel: Channel, context: ssl.SSLContext) -> None:
@@ -267,7 +307,7 @@ def log_in_encrypted(channel: Channel, context: ssl.SSLContext) -> None:
     channel.write_message(tds.PacketType.ANSWER, tds.prelogin(tds.Encryption.ON))
     channel.encrypt(context, server_side=True)
     channel.read_message()
-    channel.write_message(tds.PacketType.ANSWER, served.login_ack("Test") + served.done())
+    channel.write(LOGGED_IN)
 
 
 def serving(*answers: bytes, behind: bytes = b"", pause: float = 0.0) -> contextlib.AbstractContextManager[int]:
@@ -280,9 +320,7 @@ def serving(*answers: bytes, behind: bytes = b"", pause: float = 0.0) -> context
         if pause:
             time.sleep(pause)
             channel.write(behind)
-        channel.wait()
-        while channel.receive():
-            pass
+        until_closed(channel)
 
     return listening(serve)
 

@@ -8,7 +8,6 @@ import fcntl
 import io
 import os
 import shutil
-import subprocess
 import sys
 import tempfile
 from typing import Optional
@@ -19,7 +18,7 @@ from hypothesis.stateful import RuleBasedStateMachine, precondition, rule, run_s
 
 from gavyreto import exporting, outcomes, program, tds
 from gavyreto.commands import common, many
-from tests.beside import PROGRAM, answered, responses, served, wire
+from tests.beside import PROGRAM, answered, exported, responses, served, wire
 from tests.stopping import Stop
 
 NAMES = ["a", "b", "a.csv", "a.csv.partial", "A", "x\r\ny", 'q"', "ü", "\udcff", "n" * 243]
@@ -31,13 +30,8 @@ ROOMS = ["1048576", "1000000"]  # for descriptions, which change no text
 runs: dict[str, int] = {}
 
 
-def exported(data: bytes) -> tuple[int, bytes]:
-    """What an export by hand gives: its status, 3 for an answer that the server cancelled, and its text."""
-    ran = subprocess.run([PROGRAM, "export", "--packet-size", "32767"], input=data, capture_output=True, check=False)
-    return 3 if data == CONTENTS["cancelled"] else ran.returncode, ran.stdout
-
-
 WANTED = {name: exported(data) for name, data in CONTENTS.items()}
+WANTED["cancelled"] = (program.SERVER_ERROR, WANTED["cancelled"][1])
 
 
 class Folder(RuleBasedStateMachine):

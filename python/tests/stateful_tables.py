@@ -11,12 +11,10 @@ import os
 import shutil
 import socket
 import struct
-import subprocess
 import sys
 import tempfile
 import threading
 from collections import Counter
-from collections.abc import Iterator
 from typing import NamedTuple, Optional
 
 from hypothesis import HealthCheck, settings
@@ -26,7 +24,7 @@ from hypothesis.stateful import RuleBasedStateMachine, rule, run_state_machine_a
 from gavyreto import outcomes, program, tables, tds
 from gavyreto.commands import common, query
 from gavyreto.connection import Channel
-from tests.beside import PROGRAM, SECONDS, answered, command_for, log_in, responses, served, wire
+from tests.beside import SECONDS, answered, command_for, exported, log_in, responses, served, serving_each, wire
 from tests.stopping import Stop
 
 ANSWERS = {
@@ -68,13 +66,8 @@ def name_of(item: Item) -> str:
     return item.name
 
 
-def exported(name: str) -> tuple[int, bytes]:
-    """What an export by hand gives: its status, 3 for an answer that the server cancelled, and its text."""
-    ran = subprocess.run([PROGRAM, "export", "--packet-size", "32767"], input=ANSWERS[name], capture_output=True, check=False)
-    return 3 if name == "cancelled" else ran.returncode, ran.stdout
-
-
-WANTED = {name: exported(name) for name in ANSWERS}
+WANTED = {name: exported(data) for name, data in ANSWERS.items()}
+WANTED["cancelled"] = (program.SERVER_ERROR, WANTED["cancelled"][1])
 
 
 def item_of(name: str, kind: int, answer: str, breaks: int, cut: float, surplus: bool) -> Item:
@@ -92,23 +85,7 @@ class Server:
         self.asked: Counter[str] = Counter()
         self._lock = threading.Lock()
 
-    @contextlib.contextmanager
-    def listening(self) -> Iterator[int]:
-        with socket.create_server(("127.0.0.1", 0)) as server:
-            thread = threading.Thread(target=self._accept, args=(server,))
-            thread.start()
-            try:
-                yield server.getsockname()[1]
-            finally:
-                server.shutdown(socket.SHUT_RDWR)
-                thread.join()
-
-    def _accept(self, server: socket.socket) -> None:
-        with contextlib.suppress(OSError):
-            while True:
-                threading.Thread(target=self._serve, args=(server.accept()[0],), daemon=True).start()
-
-    def _serve(self, connected: socket.socket) -> None:
+    def serve(self, connected: socket.socket) -> None:
         is_set = False
         with connected, contextlib.suppress(OSError, EOFError):
             channel = Channel(connected, SECONDS)
@@ -155,7 +132,7 @@ class Folder(RuleBasedStateMachine):
             file.writelines(item.line() for item in items)
         server, Stop.after = Server(items, closes and retries > max(item.breaks for item in items)), stop
         os.environ["SQLCMDPASSWORD"] = "secret"
-        with server.listening() as port, contextlib.redirect_stderr(io.StringIO()) as said:
+        with serving_each(server.serve) as port, contextlib.redirect_stderr(io.StringIO()) as said:
             words = command_for(port, "--tables", self.file, "-o", self.out, "-j", str(jobs), "--retries", str(retries))
             try:
                 status = query.run(words[4:])

@@ -24,7 +24,7 @@ from gavyreto.adapting import Adapter, variant_text
 from gavyreto.columns import postgresql_type, sqlite_type
 from gavyreto.payload import Ended, Payload, columns_of
 from tests import test_readings
-from tests.beside import PROGRAM, Live, answered, need, responses, served, serving, started, wait_for, wire
+from tests.beside import PROGRAM, Live, answered, exported, need, responses, served, serving, started, wait_for, wire
 
 from plain import reader  # isort: skip  the tools are on the path after it
 
@@ -35,11 +35,6 @@ def adapted(data: bytes, charset: str = "windows-1252") -> bytes:
     out = io.BytesIO()
     Adapter(io.BytesIO(data).read, out.write, charset).run()
     return out.getvalue()
-
-
-def exported(data: bytes, *words: str) -> tuple[int, bytes]:
-    ran = subprocess.run([PROGRAM, "export", "--packet-size", "32767", *words], input=data, capture_output=True, check=False)
-    return ran.returncode, ran.stdout
 
 
 def quoted(value: Any) -> str:

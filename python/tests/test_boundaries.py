@@ -15,11 +15,12 @@ import gavyreto
 from gavyreto import tds
 from gavyreto.connection import Channel
 from gavyreto.tds import Encryption, PacketType
-from tests.beside import ORDERS, PROGRAM, SECONDS, Live, answered, ask_port, command_for, context_of, listening, log_in, responses, served, serving, started, wire
+from tests.beside import LOGGED_IN, ORDERS, PROGRAM, SECONDS, Live, answered, ask_port, command_for, context_of, exported, listening, log_in, responses, served, serving
+from tests.beside import started, until_closed, wire
 
 UNASKED = "the server sent bytes that weren't asked for"
 REPORT = f"sets 1 rows 3 errors 0 infos 0 written {len(ORDERS)}"
-ORDERED, LOGGED_IN = wire("orders"), tds.packet(PacketType.ANSWER, served.login_ack("Test") + served.done())
+ORDERED = wire("orders")
 
 
 def rows_that_end(status: int, token: int = tds.Token.DONE) -> bytes:
@@ -79,9 +80,7 @@ class BeforeEncryption(Live):
         def serve(channel: Channel) -> None:
             channel.read_message()
             channel.write(tds.packet(PacketType.ANSWER, tds.prelogin(Encryption.NOT_SUPPORTED)) + LOGGED_IN + ORDERED)
-            channel.wait()
-            while channel.receive():
-                pass
+            until_closed(channel)
 
         with listening(serve) as port:
             self.assert_ends(ask_port(port), 4, b"", UNASKED)
@@ -91,16 +90,11 @@ class BeforeStatements(Live):
     def asked(self, behind_login: bytes, answers: list[bytes], *statements: str) -> subprocess.CompletedProcess[bytes]:
         """What comes of a server that writes some bytes behind its answer to a login, and then one answer after the other."""
         def serve(channel: Channel) -> None:
-            channel.read_message()
-            channel.write_message(PacketType.ANSWER, tds.prelogin(Encryption.NOT_SUPPORTED))
-            channel.read_message()
-            channel.write(LOGGED_IN + behind_login)
+            log_in(channel, LOGGED_IN + behind_login)
             for answer in answers:
                 channel.read_message()
                 channel.write(answer)
-            channel.wait()
-            while channel.receive():
-                pass
+            until_closed(channel)
 
         with listening(serve) as port:
             return ask_port(port, "--seconds", "60", *statements)
@@ -120,10 +114,7 @@ class BeforeStatements(Live):
         ends = [served.done() + b"".join(responses.order_rows(0)), *(served.done(1 << bit) for bit in (0, 1, 5, 8))]
         for end in ends:
             def serve(channel: Channel) -> None:
-                channel.read_message()
-                channel.write_message(PacketType.ANSWER, tds.prelogin(Encryption.NOT_SUPPORTED))
-                channel.read_message()
-                channel.write_message(PacketType.ANSWER, served.login_ack("Test") + end)
+                log_in(channel, tds.packet(PacketType.ANSWER, served.login_ack("Test") + end))
                 channel.receive()
 
             with self.subTest(end[:3]), listening(serve) as port:
@@ -247,15 +238,13 @@ class SlowReaders(Live):
     def test_only_the_wait_for_the_server_counts(self) -> None:
         """A reader who takes longer over the rows than the server may be silent gets all of them."""
         rows = b"".join(tds.packets(responses.RESPONSES["kinds"](20_000), 4096))
-        wanted = subprocess.run([PROGRAM, "export", "--packet-size", "4096"], input=rows, capture_output=True, check=True).stdout
+        wanted = exported(rows)[1]
 
         def serve(channel: Channel) -> None:
             log_in(channel)
             channel.read_message()
             channel.write(rows)
-            channel.wait()
-            while channel.receive():
-                pass
+            until_closed(channel)
 
         with listening(serve) as port:
             run = subprocess.Popen(command_for(port, "--seconds", "3", "SELECT 1"), bufsize=0, stdout=subprocess.PIPE, stderr=subprocess.PIPE, **started())

@@ -18,7 +18,7 @@ from unittest import mock
 
 from gavyreto import tds
 from tests.beside import (
-    PROGRAM, ROOT, Live, answered, assert_signalled, is_waiting, lines_of, need, running_in, served, skip, started, stepped, wait_for, wire,
+    PROGRAM, ROOT, Live, answered, assert_signalled, exported, is_waiting, lines_of, need, need_pymssql, running_in, served, skip, started, stepped, wait_for, wire,
 )
 
 sys.path[:0] = [os.path.join(ROOT, "tools")]
@@ -30,8 +30,8 @@ SHOWN = ["SELECT * FROM kinds", "SELECT * FROM sets WHERE note = 'x' AND total >
 RESPONSES = [wire("kinds", 40), wire("sets"), wire("error")]
 
 
-def exported(data: bytes) -> bytes:
-    return subprocess.run([PROGRAM, "export", "--packet-size", "32767"], input=data, capture_output=True, check=False).stdout
+def text_of(data: bytes) -> bytes:
+    return exported(data)[1]
 
 
 def conversation(client: captures.Side = captures.CLIENT, encrypted: bool = False) -> captures.Capture:
@@ -100,7 +100,7 @@ class Captures(unittest.TestCase):
             with self.subTest(form=form):
                 came, table = self.captured(conversation().frames, form)
                 self.assertEqual((came.returncode, self.sums(came)["not read"], self.sums(came)["told"]), (3, 0, 0))
-                self.assertEqual(self.texts(), dict(zip(self.names(), map(exported, RESPONSES))))
+                self.assertEqual(self.texts(), dict(zip(self.names(), map(text_of, RESPONSES))))
                 self.assertEqual([(line["text"], line["statement"], line["status"]) for line in table], list(zip(self.names(), SHOWN, "003")))
                 self.assertEqual({(line["client"], line["server"]) for line in table}, {("192.0.2.10.50123", "192.0.2.20.1433")})
                 self.assertTrue(all((line["time"] or "").startswith("2023-11-14 22:13:20.0") for line in table))
@@ -111,7 +111,7 @@ class Captures(unittest.TestCase):
         frames = [frame for pair in zip(one.frames, other.frames) for frame in pair]
         came, table = self.captured(frames, "pcapng")
         self.assertEqual(came.returncode, 3)
-        wanted = dict(zip(self.names() + self.names("192.0.2.11.50999"), list(map(exported, RESPONSES)) * 2))
+        wanted = dict(zip(self.names() + self.names("192.0.2.11.50999"), list(map(text_of, RESPONSES)) * 2))
         self.assertEqual(self.texts(), wanted)
         self.assertEqual(len(table), 6)
 
@@ -119,12 +119,12 @@ class Captures(unittest.TestCase):
         server = [frame for frame in conversation().frames if frame[34:36] == (1433).to_bytes(2, "big")]
         came, table = self.captured(server)
         self.assertEqual((came.returncode, [line["statement"] for line in table]), (3, [None] * 3))
-        self.assertEqual(list(self.texts().values()), list(map(exported, RESPONSES)))
+        self.assertEqual(list(self.texts().values()), list(map(text_of, RESPONSES)))
 
     def test_segments_that_are_lost(self) -> None:
         """Whichever is lost: each text is that of a whole response or a part of it, and what is lost is told."""
         frames = conversation().frames
-        wholes = [exported(data) for data in RESPONSES]
+        wholes = [text_of(data) for data in RESPONSES]
         for place in range(3, len(frames), 5):
             is_server = frames[place][34:36] == (1433).to_bytes(2, "big") and len(frames[place]) > 54
             came, table = self.captured(frames[:place] + frames[place + 1:])
@@ -140,7 +140,7 @@ class Captures(unittest.TestCase):
 
     def test_captures_that_begin_anywhere(self) -> None:
         frames = conversation().frames
-        wholes = [exported(data) for data in RESPONSES]
+        wholes = [text_of(data) for data in RESPONSES]
         for place in range(0, len(frames), 10):
             came, table = self.captured(frames[place:])
             with self.subTest(place=place):
@@ -186,7 +186,7 @@ class Captures(unittest.TestCase):
         """As a proxy keeps it: with answers to greeting and login, whole, cut off, and with something else in it."""
         login = captures.greeting(4) + tds.packet(0x12, captures.tls_record(0x16, 900)) + captures.login_answer()
         whole = login + b"".join(RESPONSES)
-        texts = dict(zip((f"answer.{number}.csv" for number in (1, 2, 3)), map(exported, RESPONSES)))
+        texts = dict(zip((f"answer.{number}.csv" for number in (1, 2, 3)), map(text_of, RESPONSES)))
         for data, status, told, left in (
             (whole, 3, None, texts), (b"".join(RESPONSES), 3, None, texts),
             (whole + b"HTTP", 4, "no packet begins here: 4 bytes are passed over", texts),
@@ -290,7 +290,7 @@ class Captures(unittest.TestCase):
             given.pop("stdin")
             came = subprocess.run(["bash", "-c", command], cwd=self.folder, capture_output=True, check=False, **given)
             with self.subTest(words):
-                self.assertEqual((came.returncode, self.texts()), (3, dict(zip(self.names(), map(exported, RESPONSES)))))
+                self.assertEqual((came.returncode, self.texts()), (3, dict(zip(self.names(), map(text_of, RESPONSES)))))
 
     def test_packets_beside_texts(self) -> None:
         """As they came; if columns are refused, as they were rewritten."""
@@ -306,7 +306,7 @@ class Captures(unittest.TestCase):
         came, table = self.captured(made.frames, "pcap", "--packets", "--adapt")
         texts = self.texts()
         self.assertEqual((came.returncode, texts[f"{stem}.1.tds"], texts[f"{stem}.2.csv"]), (0, wire("orders"), b'"id","ratio"\r\n1,NULL\r\n'))
-        self.assertEqual(exported(texts[f"{stem}.2.tds"]), texts[f"{stem}.2.csv"])
+        self.assertEqual(text_of(texts[f"{stem}.2.tds"]), texts[f"{stem}.2.csv"])
 
     def test_answers_that_say_how_they_ended(self) -> None:
         """By the bits of the last DONE: an error, an attention, an error of the server."""
@@ -379,7 +379,7 @@ class Captures(unittest.TestCase):
             made.write(file)
         for number in (signal.SIGTERM, signal.SIGINT):
             whole, texts = self.signalled(number, 0)
-            self.assertEqual((whole.returncode, list(texts.values())), (3, [exported(data) for data in (*RESPONSES, long)]))
+            self.assertEqual((whole.returncode, list(texts.values())), (3, [text_of(data) for data in (*RESPONSES, long)]))
             for at in lines_of(whole, 22):
                 with self.subTest(number=number, at=at):
                     came, left = self.signalled(number, at)
@@ -416,15 +416,14 @@ class Written(Live):
         need(self, "tcpdump", "dumpcap", "tshark", "tsql", "freebcp")
         if os.geteuid() != 0:
             skip(self, "only root may capture here")
-        if subprocess.run([DEBIAN, "-c", "import pymssql"], capture_output=True, check=False).returncode != 0:
-            skip(self, "Python's module pymssql isn't there: `make needs` installs it")
+        need_pymssql(self)
         self.script("client.sh", CLIENTS)
         came = self.beside(("--encrypt", "none"), "exec ./client.sh", FREETDSCONF=self.path("freetds.conf"), PYTHON=DEBIAN, CAPTURE=f"{sys.executable} -m gavyreto capture")
         self.assertEqual((came.returncode, came.stdout.decode().split()), (0, ["any", "0", "lo", "0", "ts", "0"]), came.stderr)
         for name in ("any", "lo", "ts"):
             texts = [self.text(os.path.join(name, it)) for it in sorted(os.listdir(self.path(name)))]
-            self.assertEqual(texts.count(exported(wire("orders"))), 2, name)
-            self.assertEqual(texts.count(exported(wire("sets"))), 1, name)
+            self.assertEqual(texts.count(text_of(wire("orders"))), 2, name)
+            self.assertEqual(texts.count(text_of(wire("sets"))), 1, name)
             subprocess.run(["rm", "-r", self.path(name)], check=True)
 
 
@@ -475,8 +474,8 @@ class Dumps(Live):
                 lines = list(csv.DictReader(io.StringIO(came.stdout.decode(), newline="")))
                 self.assertEqual([(it["text"], it["statement"], it["status"]) for it in lines], [
                     ("answer.1.csv", "SELECT * FROM orders SELECT 2", "0"), ("answer.2.csv", "SELECT * FROM broken", "3")])
-                self.assertEqual(self.text(os.path.join("out", "answer.1.csv")), exported(wire("orders")))
-                self.assertEqual(self.text(os.path.join("out", "answer.2.csv")), exported(wire("broken", 5000)))
+                self.assertEqual(self.text(os.path.join("out", "answer.1.csv")), text_of(wire("orders")))
+                self.assertEqual(self.text(os.path.join("out", "answer.2.csv")), text_of(wire("broken", 5000)))
             subprocess.run(["rm", "-r", self.path("out")], check=True)
 
 

@@ -24,7 +24,7 @@ from gavyreto.where import OF_URL, Where
 from gavyreto.commands.query import arguments, server
 from gavyreto.connection import Channel
 from gavyreto.tds import PacketType
-from tests.beside import ORDERS, SECONDS, Live, answered, ask_port, command_for, listening, log_in, responses, saying_goodbye, served, started, wait_for
+from tests.beside import ORDERS, SECONDS, Live, answered, ask_port, command_for, listening, log_in, responses, saying_goodbye, served, started, until_closed, wait_for
 
 ORDERED = answered(*responses.order_rows(0), served.done())
 REPORT = f"sets 1 rows 3 errors 0 infos 0 written {len(ORDERS)}"
@@ -379,15 +379,10 @@ class Endings(Live):
         self.assert_ends(came, 4, b"", "an answer with more than 1000 packets without a body")
 
     def test_a_long_message_of_a_refused_login(self) -> None:
-        def serve(channel: Channel) -> None:
-            channel.read_message()
-            channel.write_message(PacketType.ANSWER, tds.prelogin(tds.Encryption.NOT_SUPPORTED))
-            channel.read_message()
-            message = "é\u061c\ufff9" + "東" * 200
-            body = struct.pack("<iBBH", 18456, 1, 14, len(message)) + message.encode("utf-16-le") + bytes(6)
-            channel.write_message(PacketType.ANSWER, served.counted_body(tds.Token.ERROR, body) + served.done())
-
-        with listening(serve) as port:
+        message = "é\u061c\ufff9" + "東" * 200
+        body = struct.pack("<iBBH", 18456, 1, 14, len(message)) + message.encode("utf-16-le") + bytes(6)
+        refusal = tds.packet(PacketType.ANSWER, served.counted_body(tds.Token.ERROR, body) + served.done())
+        with listening(lambda channel: log_in(channel, refusal)) as port:
             came = ask_port(port)
         line = came.stderr.decode().rstrip("\n")
         self.assertEqual((came.returncode, line), (3, "server error 18456, state 1, class 14, line 0: é\\u061c\\ufff9" + "東" * 168))
@@ -405,9 +400,7 @@ class Endings(Live):
                 time.sleep(0.1)
 
         def silent(channel: Channel) -> None:
-            channel.wait()
-            while channel.receive():
-                pass
+            until_closed(channel)
 
         cases: list[tuple[Callable[[Channel], None], dict[str, Any], tuple[str, ...]]] = [
             (empty, {}, ("--login-seconds", "2")), (dripping, {}, ("--login-seconds", "2")), (silent, {"SQLCMDLOGINTIMEOUT": "2"}, ())]

@@ -19,10 +19,9 @@ from collections.abc import Callable, Iterator
 from unittest import mock
 
 from gavyreto import exporting, outcomes, program, tds
-from gavyreto.commands import many
 from gavyreto.commands.common import Stopped, checked_program, folder_of_texts
 from tests import test_adapt
-from tests.beside import PROGRAM, ROOT, SECONDS, answered, is_waiting, need, responses, running_in, served, skip, started, wait_for, wire
+from tests.beside import PROGRAM, ROOT, SECONDS, answered, exported, is_waiting, need, responses, running_in, served, skip, started, wait_for, wire
 
 sys.path[:0] = [os.path.join(ROOT, "tools")]
 from lib import requirements  # noqa: E402
@@ -179,7 +178,7 @@ class Here(Many):
         self.assertEqual(self.many("--adapt", "in", "out")[0], 4)
         for name in names:
             with open(self.path("out", name + ".csv"), "rb") as file:
-                self.assertEqual(file.read(), test_adapt.exported(test_adapt.adapted(wire(name, 0, 512)))[1])
+                self.assertEqual(file.read(), exported(test_adapt.adapted(wire(name, 0, 512)))[1])
         with open(self.path("out", "cut.csv.partial"), "rb") as file:
             self.assertTrue(test_adapt.refused_text().startswith(file.read()))
 

@@ -8,7 +8,7 @@ import subprocess
 import sys
 import unittest
 
-from tests.beside import ORDERS, ROOT, Live, need, skip
+from tests.beside import ORDERS, ROOT, Live, need, need_pymssql
 
 sys.path[:0] = [os.path.join(ROOT, "tools")]
 from lib import capture_builder as captures  # noqa: E402
@@ -89,8 +89,7 @@ class Clients(Live):
         self.each("freebcp orders out rows.bcp -S here -U reader -P secret -c -t '|' > notes; cat rows.bcp", rows)
 
     def test_pymssql(self) -> None:
-        if subprocess.run([DEBIAN, "-c", "import pymssql"], capture_output=True, check=False).returncode != 0:
-            skip(self, "Python's module pymssql isn't there: `make needs` installs it")
+        need_pymssql(self)
         program = (
             "import os, pymssql; connection = pymssql.connect(server='127.0.0.1', port=os.environ['PORT'], user='reader', "
             "password='secret', autocommit=True); cursor = connection.cursor(); cursor.execute('SELECT * FROM sets'); "

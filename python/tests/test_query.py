@@ -26,8 +26,8 @@ from gavyreto.connection import Channel, Session
 from gavyreto.tds import PacketType
 from tests import test_adapt
 from tests.beside import (
-    ORDERS, PROGRAM, SECONDS, Live, StandIn, ask_port, assert_signalled, command_for, context_of, has_ended, is_waiting, lines_of,
-    listening, log_in, log_in_encrypted, need, responses, served, serving, started, stepped, wait_for, wire,
+    ORDERS, PROGRAM, SECONDS, Live, StandIn, ask_port, assert_signalled, command_for, context_of, exported, has_ended, is_waiting, lines_of,
+    listening, log_in, log_in_encrypted, need, responses, served, serving, started, stepped, until_closed, wait_for, wire,
 )
 
 LONG = 200_000_000
@@ -133,7 +133,7 @@ class Answers(Live):
                 with self.subTest(encrypt=encrypt, name=name):
                     kept = self.text(f"kept{number}.tds")
                     self.assertEqual(kept, wire(name, 0, 512))
-                    self.assertEqual(self.text(f"rows{number}.csv"), test_adapt.exported(test_adapt.adapted(kept))[1])
+                    self.assertEqual(self.text(f"rows{number}.csv"), exported(test_adapt.adapted(kept))[1])
         came = self.query("TRUSTED --adapt 'SELECT * FROM refused' 'SELECT * FROM orders'")
         self.assertEqual((came.returncode, came.stdout), (0, test_adapt.refused_text() + b"\r\n" + ORDERS))
 
@@ -355,9 +355,7 @@ class Silence(Live):
             channel.read_message()
             channel.write_message(PacketType.ANSWER, b"".join(responses.order_rows(0)) + served.done())
             channel.read_message()
-            channel.wait()
-            while channel.receive():
-                pass
+            until_closed(channel)
 
         def asked(encrypt: str) -> subprocess.CompletedProcess[bytes]:
             with listening(lambda channel: serve(channel, encrypt)) as port:
@@ -427,9 +425,7 @@ class Silence(Live):
                     channel.write(answer)
                 with contextlib.suppress(OSError):  # the client may be gone
                     channel.socket.shutdown(socket.SHUT_WR)
-                channel.wait()
-                while channel.receive():
-                    pass
+                until_closed(channel)
 
             with self.subTest(answers=answers[-1][:40]), listening(serve) as port:
                 came = ask_port(port, "--seconds", "60", "SELECT 1")

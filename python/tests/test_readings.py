@@ -27,7 +27,7 @@ from gavyreto.connection import Channel, Server
 from gavyreto.text import Sets
 from tests.beside import (
     PROGRAM, SECONDS, Live, answered, context_of, interrupted, listening, log_in, log_in_encrypted, meanwhile, responses, saying_goodbye, served, serving, wait_for,
-    wire,
+    until_closed, wire,
 )
 
 ORDERED = answered(*responses.order_rows(0), served.done())
@@ -466,9 +466,7 @@ class Connections(Live):
             log_in_encrypted(channel, context) if is_encrypted else log_in(channel)
             channel.read_message()
             channel.write(ORDERED + wire("sets"))
-            channel.wait()
-            while channel.receive():
-                pass
+            until_closed(channel)
 
         for is_encrypted in (False, True):
             own = {"encrypt": "all", "trust_server": True} if is_encrypted else {}
@@ -493,9 +491,7 @@ class Connections(Live):
             channel.socket.sendall(records[0] + records[1][:length])
             if ends:
                 channel.socket.shutdown(socket.SHUT_WR)
-            channel.wait()
-            while channel.receive():
-                pass
+            until_closed(channel)
 
         for length, ends, asks in ((1, False, False), (5, True, False), (-1, False, False), (-1, False, True), (3, False, True)):
             with self.subTest(length=length, ends=ends, asks=asks):

@@ -22,8 +22,8 @@ from unittest import mock
 from gavyreto import tables, tds
 from gavyreto.commands import query
 from gavyreto.connection import UNASKED, Channel
-from tests.beside import PROGRAM, SECONDS, answered, ask_port, certificate_in, command_for, context_of, log_in, log_in_encrypted, need, responses, served
-from tests.beside import started, wait_for, wire
+from tests.beside import SECONDS, answered, ask_port, certificate_in, command_for, context_of, exported, log_in, log_in_encrypted, need, responses
+from tests.beside import served, serving_each, started, wait_for, wire
 
 COLUMNS = 10  # of the table of outcomes
 RETRIED = "SELECT * FROM retried"
@@ -38,7 +38,7 @@ def answer_of(statement: str) -> bytes:
 
 def text_of(statement: str) -> bytes:
     """The text of an answer, by an export by hand."""
-    return subprocess.run([PROGRAM, "export"], input=answer_of(statement), capture_output=True, check=False).stdout
+    return exported(answer_of(statement))[1]
 
 
 class Server:
@@ -52,17 +52,11 @@ class Server:
 
     @contextlib.contextmanager
     def listening(self) -> Iterator[int]:
-        with socket.create_server(("127.0.0.1", 0)) as server:
-            threading.Thread(target=self._accept, args=(server,), daemon=True).start()
+        with serving_each(self._serve) as port:
             try:
-                yield server.getsockname()[1]
+                yield port
             finally:
                 self.is_let.set()
-
-    def _accept(self, server: socket.socket) -> None:
-        with contextlib.suppress(OSError):
-            while True:
-                threading.Thread(target=self._serve, args=(server.accept()[0],), daemon=True).start()
 
     def _serve(self, connected: socket.socket) -> None:
         with connected, contextlib.suppress(OSError, EOFError):
@@ -265,7 +259,7 @@ class Tables(unittest.TestCase):
         """What its thread raises ends the command, which waits for it no longer."""
         words = command_for(1, "--tables", self.write(["a SELECT t3"]), "-o", self.out)[4:]
         with mock.patch.dict(os.environ, SQLCMDPASSWORD="secret"), mock.patch.object(query, "session_of"), mock.patch.multiple(
-                tables.Worker, close=mock.Mock(side_effect=MemoryError), export=lambda *_: (tables.Record("a", 5, "", None, 0, 0, 0, "", "", ""), None)):
+                tables.Worker, close=mock.Mock(side_effect=MemoryError), export=lambda *_: tables.Record("a", 5, "")):
             with self.assertRaises(MemoryError):
                 query.run(words)
 
