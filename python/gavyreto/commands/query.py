@@ -105,18 +105,12 @@ def _text_of(line: bytes, where: str, is_first: bool) -> str:
 def statements_of(asked: argparse.Namespace) -> Iterator[str]:
     """The statements to send, at least one. Those of arguments and files are read before the first is handed out, and those of
     standard input too where they go to one file, which has room for one."""
-    found: Iterable[Batch]
-    if asked.statements:
-        found = [Batch(statement, 1) for statement in asked.statements]
-    elif asked.input:
-        found = [batch for path in asked.input for batch in batches(lines_of(path))]
-    else:
-        found = batches(lines_of("-"))
-        found = list(found) if any("{}" not in it for it in templates_of(asked)) else found
-    if isinstance(found, list):
-        found = [batch for batch in found if batch.statement.strip()]
+    read = [Batch(it, 1) for it in asked.statements] or (batch for path in asked.input or ["-"] for batch in batches(lines_of(path)))
+    found: Iterable[Batch] = (batch for batch in read if batch.statement.strip())
+    if asked.statements or asked.input or any("{}" not in it for it in templates_of(asked)):
+        found = list(found)
         check(found, asked)
-    sent = (it.statement for it in found if it.statement.strip() for _ in range(it.times))
+    sent = (it.statement for it in found for _ in range(it.times))
     first = next(sent, None)
     if first is None:
         raise Stopped("no statement", REFUSED)
