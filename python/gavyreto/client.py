@@ -5,13 +5,13 @@ import contextlib
 import io
 import threading
 from functools import partial
-from typing import Any, Iterator, Optional, cast
+from typing import Any, Iterator, Optional
 
 from gavyreto.adapting import Adapter, Blocks
 from gavyreto.connection import ENCRYPT, LOGIN_SECONDS, SECONDS, Session, check_type, log_in_to
 from gavyreto.errors import Error, NotSupportedError, ProgrammingError
 from gavyreto.logins import hidden
-from gavyreto.payload import Descriptions, LateDescriptions, Payload, Write
+from gavyreto.payload import Descriptions, NotedDescriptions, Payload, Write, columns_again
 from gavyreto.program import CHARSETS, COLUMN_ROOM, MAX_WIRE, PACKET_SIZE_ASKED, PROGRAM, Program, command_of, path_of
 from gavyreto.response import Feeding, Response, adapt_all
 from gavyreto.rows import Row
@@ -167,7 +167,7 @@ class Answer(Response):
         self.owns: Optional[Connection] = None  # the connection that was made for this answer
         self.is_left = False  # whether no more of it is read
         self._session, self._is_begun, self._charset = session, False, adapts
-        super().__init__(program, dates, Descriptions(), lambda: session.unfinished, adapts=adapts is not None)
+        super().__init__(program, dates, None, lambda: session.unfinished, adapts=adapts is not None)
 
     def _read(self, most: int) -> bytes:
         if not self._is_begun:
@@ -182,9 +182,9 @@ class Answer(Response):
         except Error as failure:
             self._raise(failure)
         if self._charset is None and self._session.is_ready() and self._program.offer(block):
-            self._descriptions = LateDescriptions(io.BytesIO(block).read)
+            self._descriptions = Descriptions(columns_again(io.BytesIO(block).read))
         else:
-            found = cast(Descriptions, self._descriptions)
+            self._descriptions = found = NotedDescriptions()
             self._feeding = Feeding(partial(_hand_on, self._session, block, self._charset, found, 1 if self._is_only else None), self._program)
 
     def _judge_end(self, rest: str) -> None:
@@ -212,7 +212,7 @@ class Answer(Response):
                 self._program.close()
 
 
-def _hand_on(session: Session, first: bytes, charset: Optional[str], found: Descriptions, most: Optional[int], write: Write) -> bool:
+def _hand_on(session: Session, first: bytes, charset: Optional[str], found: NotedDescriptions, most: Optional[int], write: Write) -> bool:
     """Hands an answer to the program, and notes the descriptions that may be asked for, at most so many. Returns whether it was whole."""
     blocks = _blocks(session, first, write if charset is None else lambda _: None)
     read = Blocks(lambda: next(blocks, b"")).read

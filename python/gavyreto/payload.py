@@ -3,7 +3,6 @@
 It judges nothing: the program tds_replay does. What it can't follow raises ValueError, and `Ended` where the payload ends."""
 from __future__ import annotations
 
-import threading
 from itertools import chain, compress, islice
 from typing import Callable, Iterator, Optional, TypeVar
 
@@ -242,26 +241,52 @@ def _after_chunks(data: bytes, at: int) -> int:
 
 
 class Descriptions:
-    """The columns of each set of a response, whose packets are read by one thread and asked for by another."""
+    """The columns of each set of a response, which are read once somebody asks, and no further than needed."""
 
-    def __init__(self) -> None:
+    def __init__(self, come: Iterator[list[Column]]) -> None:
+        self._come = enumerate(come)
         self._found: dict[int, list[Column]] = {}
-        self._count = 0
-        self._is_over = False
-        self._changed = threading.Condition()
+        self._count = 0  # of sets whose columns were waited for
 
     def of(self, place: int) -> Optional[list[Column]]:
         """The columns of a set by its place among the sets, once they have come; None if they don't."""
-        with self._changed:
-            self._changed.wait_for(lambda: self._is_over or self._count > place)
-            return self._found.get(place)
+        self._found.update(islice(self._come, max(place + 1 - self._count, 0)))  # each by its place, whatever comes between
+        self._count = max(self._count, place + 1)
+        return self._found.get(place)
 
     def take(self, place: int) -> Optional[list[Column]]:
-        """The same of a set that is left, which isn't kept any longer."""
-        found = self.of(place)
-        with self._changed:
-            self._found.pop(place, None)
-        return found
+        """The same of a set that is left, which isn't kept any longer, if they were read already; others are read if somebody asks."""
+        return self._found.pop(place, None)
+
+
+def columns_again(read: Read) -> Iterator[list[Column]]:
+    """The columns of each set of packets that can be read again, as far as they can be followed: the program says what is wrong."""
+    try:
+        yield from columns_of(Payload(read))
+    except (ValueError, Ended, OSError) as failure:
+        check_own(failure)
+
+
+class NotedDescriptions(Descriptions):
+    """The same of packets that come once: the thread that reads them notes the columns, and another one asks."""
+
+    def __init__(self) -> None:
+        from queue import SimpleQueue  # for what a thread reads alone
+
+        self._noted = SimpleQueue[Optional[list[Column]]]()
+        super().__init__(iter(self._noted.get, None))
+
+    def take(self, place: int) -> Optional[list[Column]]:
+        self.of(place)
+        return super().take(place)
+
+    def add(self, found: list[Column]) -> None:
+        """Notes the columns of the next set."""
+        self._noted.put(found)
+
+    def end(self) -> None:
+        """No more sets come."""
+        self._noted.put(None)
 
     def note(self, payload: Payload, most: Optional[int] = None) -> None:
         """Notes the descriptions of a payload, at most so many, as far as it can be followed: the program says what is wrong."""
@@ -273,19 +298,6 @@ class Descriptions:
         finally:
             self.end()
 
-    def add(self, found: list[Column]) -> None:
-        """Notes the columns of the next set."""
-        with self._changed:
-            self._found[self._count] = found
-            self._count += 1
-            self._changed.notify_all()
-
-    def end(self) -> None:
-        """No more sets come."""
-        with self._changed:
-            self._is_over = True
-            self._changed.notify_all()
-
     def watch(self, payload: Payload) -> bool:
         """Reads a payload to its end, and notes its descriptions. Returns whether it is whole."""
         self.note(payload)
@@ -295,24 +307,3 @@ class Descriptions:
         except (Ended, ValueError):
             pass
         return payload.is_over
-
-
-class LateDescriptions(Descriptions):
-    """The same of packets that can be read again: they are read once somebody asks, and no further than needed."""
-
-    def __init__(self, read: Read) -> None:
-        super().__init__()
-        self._walk = columns_of(Payload(read))
-
-    def of(self, place: int) -> Optional[list[Column]]:
-        try:
-            while self._count <= place:
-                self.add(next(self._walk))
-        except (StopIteration, ValueError, Ended, OSError) as failure:
-            check_own(failure)
-            return None
-        return self._found.get(place)
-
-    def take(self, place: int) -> Optional[list[Column]]:
-        """The same if they were read already; others are read if somebody asks."""
-        return self._found.pop(place, None)

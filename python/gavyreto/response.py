@@ -14,7 +14,7 @@ from gavyreto import tds
 from gavyreto.adapting import Adapter
 from gavyreto.errors import BadAnswer, Error, Fault, ProgramFailed, Report, ServerError, UnfinishedAnswer
 from gavyreto.program import BLOCK, CHANGED, CHARSETS, COLUMN_ROOM, MAX_WIRE, OF_SIGNAL, PACKET_SIZE, PROGRAM, Ending, Program, Write, command_of, has_changed
-from gavyreto.payload import Descriptions, Ended, LateDescriptions, Payload, Read
+from gavyreto.payload import Descriptions, Ended, NotedDescriptions, Payload, Read, columns_again
 from gavyreto.text import Sets
 from gavyreto.values import Dates, check_dates
 
@@ -124,7 +124,7 @@ class Response(Sets):
     """The result sets of a response, while the program reads it."""
 
     def __init__(
-        self, program: Program, dates: Dates, descriptions: Descriptions, unfinished: Unfinished, *, copy: Optional[Copy] = None,
+        self, program: Program, dates: Dates, descriptions: Optional[Descriptions], unfinished: Unfinished, *, copy: Optional[Copy] = None,
         held: Optional[HeldFile] = None, adapts: bool = False,
     ) -> None:
         self.report: Optional[Report] = None  #: once all is read and the server reported no error
@@ -226,7 +226,7 @@ def _of_bytes(data: bytes, command: list[str], dates: Dates) -> Response:
         write(data[:end])
         return framing.is_over
 
-    return Response(Program(command), dates, LateDescriptions(io.BytesIO(data).read), lambda: tds.unfinished(framing.tail), copy=copy)
+    return Response(Program(command), dates, Descriptions(columns_again(io.BytesIO(data).read)), lambda: tds.unfinished(framing.tail), copy=copy)
 
 
 def _reading(source: Source) -> tuple[Read, Callable[[], object]]:
@@ -257,7 +257,7 @@ def _is_buffer(source: Any) -> bool:
         return False
 
 
-def adapt_all(adapter: Adapter, found: Descriptions) -> bool:
+def adapt_all(adapter: Adapter, found: NotedDescriptions) -> bool:
     """Rewrites a response, whose descriptions are noted. Returns whether it was whole. Raises BadAnswer if it can't be followed."""
     try:
         adapter.run()
@@ -276,13 +276,13 @@ def _of_descriptor(descriptor: int, command: list[str], dates: Dates) -> Respons
     if not stat.S_ISREG(os.fstat(descriptor).st_mode):
         return _fed(descriptor, command, dates)
     held = HeldFile(descriptor)
-    return Response(Program(command, held.descriptor), dates, LateDescriptions(held.read), held.unfinished, held=held)
+    return Response(Program(command, held.descriptor), dates, Descriptions(columns_again(held.read)), held.unfinished, held=held)
 
 
 def _fed(source: Source, command: list[str], dates: Dates, adapts: Optional[str] = None) -> Response:
     """A response of any source, whose packets are read here, and handed to the program, rewritten if a character set is given for that."""
     read, close = _reading(source)
-    found, walked = Descriptions(), list[Union[Payload, Adapter]]()
+    found, walked = NotedDescriptions(), list[Union[Payload, Adapter]]()
 
     def copy(write: Write) -> bool:
         walked.append(Payload(read, write) if adapts is None else Adapter(read, write, adapts, found.add))

@@ -25,6 +25,7 @@ from typing import Any, Optional
 
 import gavyreto
 from gavyreto import tds
+from gavyreto.payload import Descriptions, NotedDescriptions, Payload, columns_again
 from gavyreto.program import report_of
 from tests.beside import PROGRAM, answered, interrupted, is_waiting, responses, served, started, wait_for, wire
 
@@ -206,6 +207,23 @@ class Columns(unittest.TestCase):
                 interrupted(at, lambda rows=rows: rows.columns, raised)  # type: ignore[misc]
                 if rows.columns is None:
                     self.assertRaises(gavyreto.Interrupted, rows.fetchall)
+
+    def test_an_interrupt_between_two_sets(self) -> None:
+        """What is lost by one leaves no types of another set in its place."""
+        def noted() -> NotedDescriptions:
+            found = NotedDescriptions()
+            found.note(Payload(io.BytesIO(wire("sets")).read))
+            return found
+
+        for make in (lambda: Descriptions(columns_again(io.BytesIO(wire("sets")).read)), noted):
+            wanted, at = [make().of(place) for place in range(4)], 0
+            is_come = True
+            while is_come:
+                at, found = at + 1, make()
+                is_come = interrupted(at, lambda found=found: [found.of(place) for place in range(3)])  # type: ignore[misc]
+                for place in range(4):
+                    self.assertIn(found.of(place), (None, wanted[place]), at)
+            self.assertGreater(at, 5)
 
     def test_a_text_has_names_alone(self) -> None:
         with tempfile.NamedTemporaryFile() as file:
