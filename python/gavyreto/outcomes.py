@@ -10,7 +10,7 @@ import time
 from dataclasses import dataclass, fields
 from functools import partial, reduce
 from operator import and_
-from typing import IO, Any, Callable, Collection, Generic, Optional, Sequence, TypeVar
+from typing import IO, Any, Callable, Collection, Generator, Generic, Optional, Sequence, TypeVar
 from unicodedata import normalize
 
 from gavyreto.commands import common
@@ -128,18 +128,28 @@ class Table(Generic[R]):
         if found.st_size != self._size or not os.path.samestat(found, os.fstat(self._descriptor)):
             raise Stopped(f"{self._path}: something else writes it too, and lines are lost", FAILED)
 
-    def close(self) -> None:
-        os.close(self._descriptor)
-
     def shown(self) -> str:
         """The name of the table, from the folder that the command runs in."""
         return os.path.relpath(self._path)
 
-    def add(self, record: R, name: str) -> None:
+    def fill(self, records: Generator[R, None, None], progress: Progress) -> None:
+        """Adds outcomes as they come. What is still under way where that ends early has ended before what it leaves is removed."""
+        try:
+            with contextlib.closing(records):
+                for record in records:
+                    self.add(record)
+                    progress.step(record.status not in (DONE, SERVER_ERROR))
+        finally:
+            os.close(self._descriptor)
+            progress.end()
+            remove_unfinished(self._folder)
+
+    def add(self, record: R) -> None:
         """Gives the text that waits its name, if one does, takes away the one that was there before, and writes the line: that of a
         failure if the text can't have its name. Raises `Stopped` if the table can't be written, or isn't what was written."""
+        names = texts_of(os.path.basename(record.name))
         if waiting := record.text:
-            record.text = texts_of(name)[record.status == BAD_INPUT]
+            record.text = names[record.status == BAD_INPUT]
             try:
                 target = os.path.join(self._folder, record.text)
                 if self._is_old(record.text):
@@ -149,7 +159,7 @@ class Table(Generic[R]):
                 record.text_change = os.stat(target).st_ctime_ns
             except OSError as failure:
                 record.status, record.line, record.text, record.written = FAILED, f"{record.text}: {cause_of(failure)}", None, 0
-        for other in filter(self._is_old, {*texts_of(name)} - {record.text}):
+        for other in filter(self._is_old, {*names} - {record.text}):
             with contextlib.suppress(OSError):
                 os.remove(os.path.join(self._folder, other))
         self._write(_line_of(record))
@@ -186,11 +196,12 @@ class Progress(common.Progress):
 
     def __init__(self, what: str, count: int, done: int) -> None:
         super().__init__()
-        self._what, self._count, self._done = what, count, done
+        self._what, self._count, self._done, self._failed = what, count, done, 0
 
-    def step(self, failed: int) -> None:
+    def step(self, has_failed: bool) -> None:
         self._done += 1
-        self.show(lambda seconds: f"{self._done} of {self._count} {self._what}, {failed} refused or failed, {seconds:.0f} seconds")
+        self._failed += has_failed
+        self.show(lambda seconds: f"{self._done} of {self._count} {self._what}, {self._failed} refused or failed, {seconds:.0f} seconds")
 
 
 def make_text(record: Record, name: str, folder: str, make: Callable[[IO[bytes]], object]) -> None:

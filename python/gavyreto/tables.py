@@ -17,8 +17,8 @@ from gavyreto.commands.common import Stopped, command_for, ending_of, folder_of_
 from gavyreto.connection import UNASKED, Session
 from gavyreto.errors import BadAnswer, CertificateRefused, ConnectionFailed, EncryptionRefused, LoginRefused
 from gavyreto.exporting import version_of
-from gavyreto.outcomes import PARTIAL, TABLE, TEXT, Progress, remove_unfinished, summed
-from gavyreto.program import BAD_INPUT, DECIDED, DONE, FAILED, INTERRUPTED, REFUSED, SERVER_ERROR, Program
+from gavyreto.outcomes import PARTIAL, TABLE, TEXT, Progress, summed
+from gavyreto.program import BAD_INPUT, DECIDED, DONE, FAILED, INTERRUPTED, REFUSED, Program
 
 LONGEST_STATEMENT = 100_000  # characters
 LONGEST_NAME = 255 - len(PARTIAL)  # bytes
@@ -223,24 +223,15 @@ class Workers:
 
 def export(asked: argparse.Namespace, items: list[Item], connect: Connect) -> int:
     """Exports the answer to each item, and returns the greatest status. The first login comes before anything is written."""
-    with folder_of_texts(asked.output), contextlib.ExitStack() as stack:
+    with folder_of_texts(asked.output):
         table, asked.version = outcomes.Table(asked.output, Record), version_of(asked.program)
         workers = Workers(asked, connect, connect())
         names = {item.name for item in items}
         table.begin(names, names)
-        progress, failed = Progress("tables", len(items), 0), 0
         try:
-            for record in stack.enter_context(contextlib.closing(workers.outcomes(items))):
-                table.add(record, record.name)
-                failed += record.status not in (DONE, SERVER_ERROR)
-                progress.step(failed)
+            table.fill(workers.outcomes(items), Progress("tables", len(items), 0))
         except KeyboardInterrupt:
             raise Stopped("interrupted: begun again all are asked again", INTERRUPTED) from None
-        finally:
-            stack.close()
-            table.close()
-            progress.end()
-            remove_unfinished(asked.output)
     status = summed("tables", [(item.name, table.records[item.name]) for item in items], table.shown())
     if workers.have_unasked():
         tell(UNASKED)

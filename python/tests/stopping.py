@@ -11,7 +11,7 @@ class Stop(outcomes.Progress):
 
     after: Optional[int] = None
 
-    def step(self, failed: int) -> None:
+    def step(self, has_failed: bool) -> None:
         if Stop.after is not None:
             Stop.after -= 1
             if Stop.after < 0:

@@ -15,7 +15,7 @@ import sys
 import tempfile
 import time
 import unittest
-from collections.abc import Callable, Iterator
+from collections.abc import Callable, Generator, Iterator
 from unittest import mock
 
 from gavyreto import exporting, outcomes, program, tds
@@ -396,6 +396,19 @@ class Here(Many):
             shutil.rmtree(self.path("out"))
             with contextlib.suppress(FileNotFoundError):
                 os.remove(self.path("saved"))
+
+    def test_what_is_under_way_has_ended_before_its_text_is_removed(self) -> None:
+        def records() -> Generator[exporting.Record, None, None]:
+            try:
+                yield exporting.Record("a", 5, "")
+            finally:
+                open(self.path("in", f"host.1.2.3{outcomes.UNFINISHED}"), "w").close()
+
+        table = outcomes.Table(self.path("in"), exporting.Record, "file")
+        table.begin(set(), [])
+        with mock.patch.object(table, "add", side_effect=Stopped("lines are lost", 5)), self.assertRaises(Stopped):
+            table.fill(records(), outcomes.Progress("responses", 1, 0))
+        self.assertEqual(os.listdir(self.path("in")), [outcomes.TABLE])
 
     def test_a_foreign_file_that_comes_meanwhile(self) -> None:
         """It stays, by whatever name of a text, and the response has failed if it would have that; also where a text was before."""

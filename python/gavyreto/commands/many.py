@@ -19,14 +19,14 @@ import re
 import time
 from concurrent.futures import FIRST_COMPLETED, Future, ThreadPoolExecutor, wait
 from types import TracebackType
-from typing import Any, Iterator, Optional, Union
+from typing import Any, Generator, Optional, Union
 
 from gavyreto import outcomes
 from gavyreto.commands.common import STANDARD_ERROR, STREAMS, Stopped, add_options_of_program, cause_of, checked_program, command_for, folder_of_texts, named, number_in, parser_of
 from gavyreto.exporting import Record, end_all, export_file, kill_all, stamp_of, version_of
-from gavyreto.outcomes import TABLE, TEXT, Progress, remove_unfinished, summed, texts_of
+from gavyreto.outcomes import TABLE, TEXT, Progress, summed, texts_of
 from gavyreto.places import stats_of
-from gavyreto.program import DONE, FAILED, INTERRUPTED, REFUSED, SERVER_ERROR
+from gavyreto.program import FAILED, INTERRUPTED, REFUSED
 
 SECONDS_BETWEEN = 0.05  # two looks at whether exports have ended
 SECONDS_OF_SCHEDULER = 30  # the longest that it may be silent, or that its file is waited for
@@ -66,10 +66,9 @@ class Table(outcomes.Table[Record]):
         except OSError:
             return False
 
-    def tell(self, record: Record) -> None:
-        """Gives a text its name, and writes the line."""
+    def add(self, record: Record) -> None:
         record.options = self._options
-        self.add(record, os.path.basename(record.name))
+        super().add(record)
 
 
 def _inodes_of(*paths: Union[str, int]) -> set[tuple[int, int]]:
@@ -110,7 +109,7 @@ class Here(contextlib.nullcontext[None]):
     def version(self, name: str) -> str:
         return version_of(name)
 
-    def outcomes(self, files: list[str], folder: str, command: list[str], adapts: Optional[str]) -> Iterator[Record]:
+    def outcomes(self, files: list[str], folder: str, command: list[str], adapts: Optional[str]) -> Generator[Record, None, None]:
         """The outcomes, as they come."""
         with ThreadPoolExecutor(self._jobs) as pool:
             running: set[Future[Record]] = set()
@@ -176,7 +175,7 @@ class Cluster:
         except OSError as failure:
             raise Stopped(f"{name}, on a worker: {cause_of(failure)}", REFUSED) from None
 
-    def outcomes(self, files: list[str], folder: str, command: list[str], adapts: Optional[str]) -> Iterator[Record]:
+    def outcomes(self, files: list[str], folder: str, command: list[str], adapts: Optional[str]) -> Generator[Record, None, None]:
         """The outcomes, as they come. A response whose workers or whose scheduler were lost has failed."""
         from distributed import as_completed
 
@@ -204,16 +203,8 @@ def export_left(files: list[str], asked: argparse.Namespace) -> int:
         table.check(files)
         left = [file for file in files if not table.is_done(file)]
         table.begin({*left}, [os.path.basename(it) for it in left])
-        progress, failed = Progress("responses", len(files), len(files) - len(left)), 0
-        try:
-            for record in place.outcomes(left, asked.out, command, asked.charset if asked.adapt else None):
-                table.tell(record)
-                failed += record.status not in (DONE, SERVER_ERROR)
-                progress.step(failed)
-        finally:
-            table.close()
-            progress.end()
-            remove_unfinished(asked.out)
+        records = place.outcomes(left, asked.out, command, asked.charset if asked.adapt else None)
+        table.fill(records, Progress("responses", len(files), len(files) - len(left)))
     return summed("responses", [(os.path.relpath(file), table.records[file]) for file in files], table.shown())
 
 
