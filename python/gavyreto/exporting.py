@@ -54,7 +54,7 @@ def export_file(file: str, folder: str, command: list[str], adapts: Optional[str
         return record
     try:
         if stat.S_ISREG(os.fstat(source).st_mode):
-            outcomes.make_text(record, os.path.basename(file), folder, lambda out: _export(source, out, record, command, adapts))
+            outcomes.make_text(record, folder, lambda out: _export(source, out, record, command, adapts))
         else:
             record.line = f"cannot read {file}: no regular file"
     finally:

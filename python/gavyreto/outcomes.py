@@ -10,7 +10,7 @@ import time
 from dataclasses import dataclass, fields
 from functools import partial, reduce
 from operator import and_
-from typing import IO, Any, Callable, Collection, Generator, Generic, Optional, Sequence, TypeVar
+from typing import IO, Any, Callable, Generator, Generic, Optional, Sequence, TypeVar
 from unicodedata import normalize
 
 from gavyreto.commands import common
@@ -89,20 +89,20 @@ class Table(Generic[R]):
             at = after
         return records
 
-    def begin(self, again: set[str], names: Collection[str]) -> None:
+    def begin(self, again: list[str]) -> None:
         """Leaves out the lines of what is to be done again, and of texts by these names, and goes on behind the others."""
-        texts = {text for name in names for text in texts_of(name)}
+        left_out, texts = set(again), {text for name in again for text in texts_of(name)}
         own = (TABLE, *texts) if is_one_file(STANDARD_ERROR, STANDARD_ERROR) else ()
         for name in own:
             if is_one_file(os.path.join(self._folder, name), STANDARD_ERROR):
                 raise Stopped(f"{name}: the lines are written to it", REFUSED)
-        self.records = {key: record for key, record in self.records.items() if key not in again and record.text not in texts}
+        self.records = {key: record for key, record in self.records.items() if key not in left_out and record.text not in texts}
         with contextlib.suppress(FileNotFoundError):  # of a run that was killed, or what something else has put there
             os.remove(self._path + UNFINISHED)
         with begun(self._path + UNFINISHED, TABLE) as out:
             write(out.name, out.fileno(), self._header + b"".join(map(_line_of, self.records.values())))
         if is_one_file(out.name, os.path.join(self._folder, os.path.basename(out.name).swapcase())):
-            check_apart(TABLE.removesuffix(TEXT), *names, *(os.path.basename(it) for it in self.records))
+            check_apart(TABLE.removesuffix(TEXT), *(os.path.basename(it) for it in (*again, *self.records)))
         os.replace(out.name, self._path)
         self._there = {text: self._state_of(text) for text in texts}
         self._descriptor = os.open(self._path, os.O_WRONLY | os.O_APPEND | os.O_CLOEXEC)
@@ -147,7 +147,7 @@ class Table(Generic[R]):
     def add(self, record: R) -> None:
         """Gives the text that waits its name, if one does, takes away the one that was there before, and writes the line: that of a
         failure if the text can't have its name. Raises `Stopped` if the table can't be written, or isn't what was written."""
-        names = texts_of(os.path.basename(record.name))
+        names = texts_of(record.name)
         if waiting := record.text:
             record.text = names[record.status == BAD_INPUT]
             try:
@@ -166,8 +166,9 @@ class Table(Generic[R]):
         self.records[record.name] = record
 
 
-def texts_of(name: str) -> tuple[str, str]:
-    """The names that the text of this may have."""
+def texts_of(path: str) -> tuple[str, str]:
+    """The names that the text of this may have, which has a path or a name."""
+    name = os.path.basename(path)
     return name + TEXT, name + PARTIAL
 
 
@@ -204,13 +205,13 @@ class Progress(common.Progress):
         self.show(lambda seconds: f"{self._done} of {self._count} {self._what}, {self._failed} refused or failed, {seconds:.0f} seconds")
 
 
-def make_text(record: Record, name: str, folder: str, make: Callable[[IO[bytes]], object]) -> None:
-    """Has a call write the text of a record, by the name of what it is of. The text waits for its own, on the disk, if the record has it
-    then, or it is removed. What else can't be read or written is the line of the record."""
+def make_text(record: Record, folder: str, make: Callable[[IO[bytes]], object]) -> None:
+    """Has a call write the text of a record. It waits for its name, on the disk, if the record has it then, or is removed. What else can't be
+    read or written is the line of the record."""
     waiting = f"{socket.gethostname()}.{os.getpid()}.{threading.get_ident()}.{time.monotonic_ns()}{UNFINISHED}"  # no other thread or machine has it
     path = os.path.join(folder, waiting)
     try:
-        with begun(path, *texts_of(name)) as out:
+        with begun(path, *texts_of(record.name)) as out:
             make(out)
             os.fsync(out.fileno())
             record.written = os.fstat(out.fileno()).st_size if record.text else 0

@@ -96,7 +96,7 @@ class Worker:
             if attempt > 1:
                 self._is_stopped.wait(min(2 ** (attempt - 2), MOST_PAUSE))
             try:
-                outcomes.make_text(record, item.name, self._asked.output, lambda out: self._ask(item, record, out))
+                outcomes.make_text(record, self._asked.output, lambda out: self._ask(item, record, out))
                 return record
             except Broken as broken:
                 record.line = str(broken)
@@ -226,8 +226,7 @@ def export(asked: argparse.Namespace, items: list[Item], connect: Connect) -> in
     with folder_of_texts(asked.output):
         table, asked.version = outcomes.Table(asked.output, Record), version_of(asked.program)
         workers = Workers(asked, connect, connect())
-        names = {item.name for item in items}
-        table.begin(names, names)
+        table.begin([item.name for item in items])
         try:
             table.fill(workers.outcomes(items), Progress("tables", len(items), 0))
         except KeyboardInterrupt:

@@ -405,7 +405,7 @@ class Here(Many):
                 open(self.path("in", f"host.1.2.3{outcomes.UNFINISHED}"), "w").close()
 
         table = outcomes.Table(self.path("in"), exporting.Record, "file")
-        table.begin(set(), [])
+        table.begin([])
         with mock.patch.object(table, "add", side_effect=Stopped("lines are lost", 5)), self.assertRaises(Stopped):
             table.fill(records(), outcomes.Progress("responses", 1, 0))
         self.assertEqual(os.listdir(self.path("in")), [outcomes.TABLE])

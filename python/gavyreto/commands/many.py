@@ -24,7 +24,7 @@ from typing import Any, Generator, Optional, Union
 from gavyreto import outcomes
 from gavyreto.commands.common import STANDARD_ERROR, STREAMS, Stopped, add_options_of_program, cause_of, checked_program, command_for, folder_of_texts, named, number_in, parser_of
 from gavyreto.exporting import Record, end_all, export_file, kill_all, stamp_of, version_of
-from gavyreto.outcomes import TABLE, TEXT, Progress, summed, texts_of
+from gavyreto.outcomes import TABLE, Progress, summed, texts_of
 from gavyreto.places import stats_of
 from gavyreto.program import FAILED, INTERRUPTED, REFUSED
 
@@ -46,10 +46,9 @@ class Table(outcomes.Table[Record]):
         if _inodes_of(STANDARD_ERROR) & inputs:
             raise Stopped(f"{STREAMS[STANDARD_ERROR]}: a response is read from it", REFUSED)
         for file in files:
-            name = os.path.basename(file)
-            if name + TEXT == TABLE:
+            if TABLE in texts_of(file):
                 raise Stopped(f"{file}: its text would have the name of the table, {TABLE}: give the file another name", REFUSED)
-            for text in texts_of(name):
+            for text in texts_of(file):
                 if _inodes_of(os.path.join(self._folder, text)) & inputs:
                     raise Stopped(f"{text} would be the text of {file}, and is a file to export: name another folder", REFUSED)
                 if of.get(text, file) != file and os.path.exists(os.path.join(self._folder, text)):
@@ -202,7 +201,7 @@ def export_left(files: list[str], asked: argparse.Namespace) -> int:
         table = Table(asked.out, options, place.version(asked.program))
         table.check(files)
         left = [file for file in files if not table.is_done(file)]
-        table.begin({*left}, [os.path.basename(it) for it in left])
+        table.begin(left)
         records = place.outcomes(left, asked.out, command, asked.charset if asked.adapt else None)
         table.fill(records, Progress("responses", len(files), len(files) - len(left)))
     return summed("responses", [(os.path.relpath(file), table.records[file]) for file in files], table.shown())
