@@ -22,7 +22,7 @@ import gavyreto
 from gavyreto import floats, tds
 from gavyreto.adapting import Adapter, variant_text
 from gavyreto.columns import postgresql_type, sqlite_type
-from gavyreto.payload import Ended, Payload, columns_of
+from gavyreto.payload import Descriptions, Ended, Payload, columns_again, columns_of
 from tests import test_readings
 from tests.beside import PROGRAM, Live, answered, exported, need, responses, served, serving, started, wait_for, wire
 
@@ -190,6 +190,25 @@ class Adapted(unittest.TestCase):
         ):
             with self.subTest(pieces=pieces), self.assertRaises(ValueError):
                 adapted(answered(*pieces, served.done()))
+
+    def test_rows_of_fixed_lengths_that_packets_cut(self) -> None:
+        """Nothing in a value tells where it ends: a row that isn't whole in what was read is converted once it is."""
+        columns = [responses.Column(name, info, responses.fixed, responses.as_it_is, bytes) for name, info in (("a", "3E"), ("b", "38"), ("c", "3B"))]
+        rows = (responses.row(columns, [struct.pack("<d", it / 8), struct.pack("<i", it), struct.pack("<f", -it / 4)]) for it in range(40))
+        payload = b"".join([responses.description(columns), *rows, served.done()])
+        wanted = exported(adapted(b"".join(tds.packets([payload], 32767))))
+        self.assertEqual(wanted[1].split()[2], b'"0.125",1,"-0.25"')
+        for size in range(20, 60):
+            self.assertEqual(exported(adapted(b"".join(tds.packets([payload], size)))), wanted, size)
+
+    def test_a_type_without_a_name(self) -> None:
+        """It ends what `columns` tells, and a reading has no types from its set on."""
+        column = responses.Column("x", "6D03", responses.short, responses.as_it_is, bytes)
+        data = answered(*list(responses.order_rows(0)), served.done(tds.MORE), responses.description([column]), served.done(tds.MORE), *responses.order_rows(0), served.done())
+        with self.assertRaisesRegex(ValueError, "no type of a column: 0x6d of 3 bytes"):
+            list(columns_of(Payload(io.BytesIO(data).read)))
+        found = Descriptions(columns_again(io.BytesIO(data).read))
+        self.assertEqual([bool(found.of(place)) for place in (0, 1, 1, 2)], [True, False, False, False])
 
     def test_floats_that_are_no_number(self) -> None:
         """Infinities, and what isn't a number at all: alone, behind rows that are converted at once, and in a sql_variant. What comes before is written."""

@@ -673,7 +673,7 @@ class DatabaseApi(Live):
     """PEP 249."""
 
     def test_a_cursor(self) -> None:
-        answers = [wire("sets"), answered(served.done()), wire("broken", 2)]
+        answers = [wire("sets"), *[answered(served.done())] * 2, wire("broken", 2)]
         with serving(*answers) as port, connected(port) as connection:
             connection.query.__func__.__kwdefaults__["program"] = PROGRAM  # type: ignore[attr-defined]
             self.addCleanup(connection.query.__func__.__kwdefaults__.update, program="tds_replay")  # type: ignore[attr-defined]
@@ -688,6 +688,7 @@ class DatabaseApi(Live):
                 with self.assertRaises(gavyreto.ProgrammingError):
                     cursor.fetchone()
             connection.commit()
+            connection.rollback()
             cursor = connection.cursor()
             with self.assertRaises(gavyreto.NotSupportedError):
                 cursor.execute("x", (1,))
