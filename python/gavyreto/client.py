@@ -185,7 +185,8 @@ class Answer(Response):
             self._descriptions = Descriptions(columns_again(io.BytesIO(block).read))
         else:
             self._descriptions = found = NotedDescriptions()
-            self._feeding = Feeding(partial(_hand_on, self._session, block, self._charset, found, 1 if self._is_only else None), self._program)
+            copy = partial(_hand_on, self._session, block, self._program.put, self._charset, found, 1 if self._is_only else None)
+            self._feeding = Feeding(copy, self._program)
 
     def _judge_end(self, rest: str) -> None:
         super()._judge_end(rest)
@@ -212,7 +213,7 @@ class Answer(Response):
                 self._program.close()
 
 
-def _hand_on(session: Session, first: bytes, charset: Optional[str], found: NotedDescriptions, most: Optional[int], write: Write) -> bool:
+def _hand_on(session: Session, first: bytes, write: Write, charset: Optional[str], found: NotedDescriptions, most: Optional[int]) -> bool:
     """Hands an answer to the program, and notes the descriptions that may be asked for, at most so many. Returns whether it was whole."""
     blocks = _blocks(session, first, write if charset is None else lambda _: None)
     read = Blocks(lambda: next(blocks, b"")).read

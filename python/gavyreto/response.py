@@ -13,7 +13,7 @@ from typing import Any, Callable, Optional, Protocol, Union, cast
 from gavyreto import tds
 from gavyreto.adapting import Adapter
 from gavyreto.errors import BadAnswer, Error, Fault, ProgramFailed, Report, ServerError, UnfinishedAnswer
-from gavyreto.program import BLOCK, CHANGED, CHARSETS, COLUMN_ROOM, MAX_WIRE, OF_SIGNAL, PACKET_SIZE, PROGRAM, Ending, Program, Write, command_of, has_changed
+from gavyreto.program import BLOCK, CHANGED, CHARSETS, COLUMN_ROOM, MAX_WIRE, OF_SIGNAL, PACKET_SIZE, PROGRAM, Ending, Program, command_of, has_changed
 from gavyreto.payload import Descriptions, Ended, NotedDescriptions, Payload, Read, columns_again
 from gavyreto.text import Sets
 from gavyreto.values import Dates, check_dates
@@ -28,7 +28,7 @@ class Readable(Protocol):
 Source = Union[str, "os.PathLike[str]", bytes, bytearray, memoryview, int, socket.socket, Readable]
 OF_DESCRIPTORS = (int, io.FileIO, socket.socket)  # read by their descriptors; a subclass, as ssl.SSLSocket, by its own method
 BUFFERS = (io.BufferedReader, io.BufferedRandom)
-Copy = Callable[[Write], bool]  # whether all packets were there
+Copy = Callable[[], bool]  # hands the packets over: whether all of them were there
 SOME = 4096  # bytes that are compared
 Unfinished = Callable[[], Optional[str]]  # what there is to say of an answer that the server ended as cancelled or failed
 
@@ -103,7 +103,7 @@ class Feeding:
     def _run(self) -> None:
         is_whole = False
         try:
-            is_whole = self._copy(self._program.put)
+            is_whole = self._copy()
         except BrokenPipeError:
             is_whole = True  # the program needs no more
         except ReadFailed as failed:
@@ -219,14 +219,14 @@ def export(
 
 
 def _of_bytes(data: bytes, command: list[str], dates: Dates) -> Response:
-    framing = tds.Framing()
+    run, framing = Program(command), tds.Framing()
     end = framing.take(data)  # what follows the response is ignored
 
-    def copy(write: Write) -> bool:
-        write(data[:end])
+    def copy() -> bool:
+        run.put(data[:end])
         return framing.is_over
 
-    return Response(Program(command), dates, Descriptions(columns_again(io.BytesIO(data).read)), lambda: tds.unfinished(framing.tail), copy=copy)
+    return Response(run, dates, Descriptions(columns_again(io.BytesIO(data).read)), lambda: tds.unfinished(framing.tail), copy=copy)
 
 
 def _reading(source: Source) -> tuple[Read, Callable[[], object]]:
@@ -282,16 +282,16 @@ def _of_descriptor(descriptor: int, command: list[str], dates: Dates) -> Respons
 def _fed(source: Source, command: list[str], dates: Dates, adapts: Optional[str] = None) -> Response:
     """A response of any source, whose packets are read here, and handed to the program, rewritten if a character set is given for that."""
     read, close = _reading(source)
-    found, walked = NotedDescriptions(), list[Union[Payload, Adapter]]()
+    run, found = Program(command), NotedDescriptions()
+    walk: Union[Payload, Adapter] = Payload(read, run.put) if adapts is None else Adapter(read, run.put, adapts, found.add)
 
-    def copy(write: Write) -> bool:
-        walked.append(Payload(read, write) if adapts is None else Adapter(read, write, adapts, found.add))
+    def copy() -> bool:
         try:
-            return found.watch(walked[0]) if isinstance(walked[0], Payload) else adapt_all(walked[0], found)
+            return found.watch(walk) if isinstance(walk, Payload) else adapt_all(walk, found)
         finally:
             close()
 
-    return Response(Program(command), dates, found, lambda: tds.unfinished(walked[0].tail), copy=copy, adapts=adapts is not None)
+    return Response(run, dates, found, lambda: tds.unfinished(walk.tail), copy=copy, adapts=adapts is not None)
 
 
 def _descriptor_of(source: Any) -> int:
