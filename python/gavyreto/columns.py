@@ -187,10 +187,11 @@ def read_column(need: Need) -> Described:
 # Tables that have room for all values of a column, as `gavyreto.export` gives them.
 
 def sqlite_type(column: Column) -> str:
-    """The type of a column of SQLite, in which each value is stored as it is: decimals and dates as text, with all digits."""
+    """The type of a column of SQLite, in which each value is stored as it is: decimals and dates as text, with all digits. A BLOB alone leaves
+    a float as it is, where TEXT keeps 15 digits of it, and REAL no sign of a zero."""
     if column.type in ("bit", *WHOLE):
         return "INTEGER"
-    return "BLOB" if column.kind in BINARY else "TEXT"
+    return "BLOB" if column.kind in (*BINARY, *FLOATS) else "TEXT"
 
 
 POSTGRESQL = {  # by the kind of a column, which is filled in; others are text

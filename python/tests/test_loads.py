@@ -13,7 +13,7 @@ from decimal import Decimal
 from typing import Any
 
 import gavyreto
-from gavyreto.columns import Column, create_table, postgresql_type, quoted, sqlite_type
+from gavyreto.columns import FLOATS, Column, create_table, postgresql_type, quoted, sqlite_type
 from gavyreto.values import Value
 from tests.beside import PROGRAM, ROOT, SECONDS, responses, skip, wire
 
@@ -64,6 +64,14 @@ class Loads(unittest.TestCase):
             read = database.execute("SELECT * FROM kinds").fetchall()
         back = [[Decimal(value) if isinstance(old, Decimal) else value for value, old in zip(row, rows)] for row, rows in zip(read, sent)]
         self.assertEqual(repr(back), repr(sent))
+
+    def test_sqlite_and_floats(self) -> None:
+        """Floats, as `adapt=True` has them, are stored with all their bits."""
+        sent = [(0.1 + 0.2, 0.1), (-0.0, -0.0), (5e-324, 1.4e-45), (1.7976931348623157e308, 3.4028235e38), (2.0**53 + 2, 16777216.0), (None, None)]
+        with sqlite3.connect(":memory:") as database:
+            database.execute(create_table("floats", [Column(name, name, None, None, None, True) for name in FLOATS], sqlite_type))
+            database.executemany("INSERT INTO floats VALUES (?, ?)", sent)
+            self.assertEqual(repr(database.execute("SELECT * FROM floats").fetchall()), repr(sent))
 
     def test_sets_that_are_split(self) -> None:
         """What isn't written, or isn't whole, is told, also of the last set."""
