@@ -22,7 +22,7 @@ from unittest import mock
 
 from gavyreto.__main__ import main
 from gavyreto.commands.common import TWO_PLACES
-from tests.beside import ORDERS, PROGRAM, Live, started
+from tests.beside import ORDERS, PROGRAM, SECONDS, Live, started
 from tests.test_query import SETS
 
 QUERIES, OTHERS = 200, 80  # cases
@@ -376,6 +376,23 @@ class Outputs(Live):
                 program = "" if command in ("adapt", "columns") else '--program "$PROGRAM"'
                 came = subprocess.run(["sh", "-c", f"$GAVYRETO {command} {program} {rest[0]} 2{error or '> errors'}"], cwd=path, check=False, **asking())
                 self.assertEqual((came.returncode, texts_in(path)), (2, before | {name: before[name] + line.encode() + b"\n"}))
+
+    def test_a_pipe_that_is_read_and_written(self) -> None:
+        """Whoever reads it has an end of it too, and would wait for its end for ever."""
+        same = "is the same pipe, whose end would never come"
+        for words, line in (
+            ("columns /dev/stdout | cat", f"/dev/stdout: standard output {same}"), ("columns /dev/stderr", f"/dev/stderr: standard error {same}"),
+            ("adapt - 0<> pipe > pipe", f"standard input: standard output {same}"),
+            ('capture --program "$PROGRAM" /dev/fd/1 OUT | cat', f"/dev/fd/1: standard output {same}"),
+            ('query --program "$PROGRAM" -S h -E -i /dev/stdout | cat', f"/dev/stdout: standard output {same}"),
+            ("adapt pipe -o pipe", "pipe: the response is read from it"), ("adapt in.tds -o pipe >&3", "pipe: standard output is written to it"),
+        ):
+            with self.subTest(words=words), tempfile.TemporaryDirectory() as path:
+                os.mkfifo(os.path.join(path, "pipe"))
+                with open(os.path.join(path, "in.tds"), "wb") as file:
+                    file.write(self.text("orders.tds"))
+                came = subprocess.run(["sh", "-c", f"exec 3<> pipe; cat in.tds >&3; $GAVYRETO {words}"], cwd=path, check=False, capture_output=True, timeout=SECONDS, **asking())
+                self.assertEqual((came.stdout, came.stderr.decode()), (b"", line + "\n"))
 
 
 def asking() -> dict[str, Any]:

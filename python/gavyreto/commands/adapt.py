@@ -16,7 +16,7 @@ from gavyreto.adapting import Adapter
 from gavyreto.commands.common import (
     STANDARD_ERROR, STANDARD_OUTPUT, STREAMS, Once, Stopped, is_one_file, named, needed, open_response, parser_of,
 )
-from gavyreto.places import Opened, Place, place_of
+from gavyreto.places import Opened, Place, are_shared, place_of, stats_of
 from gavyreto.program import BAD_INPUT, CHARSETS, FAILED, REFUSED
 
 
@@ -31,7 +31,7 @@ def arguments(words: list[str]) -> argparse.Namespace:
 def check(place: Place, source: int) -> None:
     """Raises `Stopped` if what is read or written elsewhere would be lost in a place, or it can't be written."""
     for number, what in ((source, "the response is read from"), (STANDARD_ERROR, "the lines are written to"), (STANDARD_OUTPUT, "standard output is written to")):
-        if (place.path or number == source) and any(is_one_file(it, number) for it in place.names()):
+        if are_shared(stats_of(number), stats_of(*place.names())) if place.path else number == source and is_one_file(place.descriptor, number):
             raise Stopped(f"{place.name}: {what} it", REFUSED)
     if not place.can_be_written():
         raise Stopped(f"{place.name}: can't be written", FAILED)

@@ -280,6 +280,10 @@ class Input(io.FileIO):
         with naming(self.shown):
             super().__init__(needed(STANDARD_INPUT) if name == "-" else name, closefd=name != "-")
         self._before = os.fstat(self.fileno())
+        for number in (STANDARD_OUTPUT, STANDARD_ERROR):
+            if stat.S_ISFIFO(self._before.st_mode) and os.path.samestat(self._before, os.fstat(number)):
+                self.close()
+                raise Stopped(f"{self.shown}: {STREAMS[number]} is the same pipe, whose end would never come", REFUSED)
 
     def readinto(self, room: Any) -> int:
         with naming(self.shown):
