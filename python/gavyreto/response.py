@@ -125,16 +125,21 @@ class Response(Sets):
 
     def __init__(
         self, program: Program, dates: Dates, descriptions: Optional[Descriptions], unfinished: Unfinished, *, copy: Optional[Copy] = None,
-        held: Optional[HeldFile] = None, adapts: bool = False,
+        held: Optional[HeldFile] = None, adapts: bool = False, close: Callable[[], object] = lambda: None,
     ) -> None:
+        """What was opened for it is closed if it can't begin."""
         self.report: Optional[Report] = None  #: once all is read and the server reported no error
         self.is_whole = False  #: once all is read, whether or not the server reported an error
         self._program, self._unfinished, self._held = program, unfinished, held
         self._feeding: Optional[Feeding] = None
         super().__init__(self._read, dates, descriptions, adapts)
-        program.begin()
-        if copy:
-            self._feeding = Feeding(copy, program)
+        try:
+            program.begin()
+            self._feeding = Feeding(copy, program) if copy else None
+        except (OSError, RuntimeError):  # no program, or no thread, can be started
+            self.close()
+            close()
+            raise
 
     def __del__(self) -> None:
         """Ends a reading that is dropped where it was begun. What is handed over in a thread doesn't keep it."""
@@ -291,7 +296,7 @@ def _fed(source: Source, command: list[str], dates: Dates, adapts: Optional[str]
         finally:
             close()
 
-    return Response(run, dates, found, lambda: tds.unfinished(walk.tail), copy=copy, adapts=adapts is not None)
+    return Response(run, dates, found, lambda: tds.unfinished(walk.tail), copy=copy, adapts=adapts is not None, close=close)
 
 
 def _descriptor_of(source: Any) -> int:

@@ -2,6 +2,7 @@
 from __future__ import annotations
 
 import bz2
+import contextlib
 import gc
 import gzip
 import io
@@ -22,6 +23,7 @@ from decimal import Decimal
 from itertools import product
 from types import SimpleNamespace
 from typing import Any, Optional
+from unittest import mock
 
 import gavyreto
 from gavyreto import tds
@@ -465,6 +467,29 @@ class Sources(unittest.TestCase):
             export("no such file")
         with self.assertRaises(FileNotFoundError):
             gavyreto.export(b"", program="no such program")
+
+
+    def test_what_was_opened_where_none_begins(self) -> None:
+        """It is closed before the error is raised: where no program can be started, and no thread."""
+        def opened() -> list[str]:
+            gc.collect()  # programs, whose numbers nothing else may get as long as they are there
+            return sorted(os.listdir("/proc/self/fd"))
+
+        with tempfile.TemporaryDirectory() as folder, socket.socket() as stream:
+            path = os.path.join(folder, "orders.tds")
+            with open(path, "wb") as file:
+                file.write(wire("orders"))
+            with open(path, "rb", buffering=0) as raw, open(path, "rb") as buffered:
+                for source, adapts in product((path, raw, buffered, raw.fileno(), stream), (False, True)):
+                    before = opened()
+                    try:
+                        gavyreto.export(source, program="/not/here", adapt=adapts)
+                    except FileNotFoundError as failure:
+                        kept = failure  # with its frames
+                    with mock.patch.object(threading.Thread, "start", side_effect=RuntimeError):
+                        with contextlib.suppress(RuntimeError), export(source, adapt=adapts):
+                            pass
+                    self.assertEqual((kept.filename, opened()), ("/not/here", before), (source, adapts))
 
 
 class Stops(unittest.TestCase):
