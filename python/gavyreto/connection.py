@@ -15,6 +15,7 @@ from typing import Any, Callable, Iterator, NamedTuple, Optional, TypeVar, Union
 from gavyreto import tds
 from gavyreto.errors import BadAnswer, CertificateRefused, ConnectionFailed, EncryptionRefused, Error, TimedOut
 from gavyreto.logins import Hidden, Proof, Proving, checked_token, hidden, proof_of
+from gavyreto.program import owned
 from gavyreto.tds import Encryption, PacketType
 from gavyreto.where import BROWSER, MORE, port_of
 
@@ -48,7 +49,7 @@ class Channel:
     counts, not what is spent on what came. Within `limit` all of it counts, and nothing renews it."""
 
     def __init__(self, connected: socket.socket, seconds: float) -> None:
-        self.socket, self.seconds = connected, seconds
+        self.socket, self.seconds = owned(connected), seconds
         self.meanwhile: Meanwhile = wait_for  #: what is done while the other side is waited for
         connected.settimeout(None)
         self.tls: Optional[ssl.SSLObject] = None

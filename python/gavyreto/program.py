@@ -10,9 +10,10 @@ import select
 import shutil
 import stat
 import subprocess
+import threading
 import time
 import weakref
-from typing import IO, Callable, NamedTuple, Optional, Union, cast
+from typing import IO, Any, Callable, NamedTuple, Optional, TypeVar, Union, cast
 
 from gavyreto.errors import FAULT, SERVER_ERROR as LINE_OF_ERROR, Fault, Report, ServerError
 
@@ -42,6 +43,7 @@ OF_SIGNAL = 128  # is added to the number of a signal
 OF_DEVICES = ("ReadFailed", "WriteFailed")  # faults with the status FAILED
 
 Write = Callable[[bytes], object]
+T = TypeVar("T")
 Said = Union[Report, Fault, ServerError, None]
 
 
@@ -243,7 +245,8 @@ class Program(contextlib.AbstractContextManager["Program"]):
         if self._process and (self._is_under_way() or not self.is_reading or self._process.args != self._words() or self._process.poll() is not None):
             self.close()
         if self._process is None:
-            self._start()
+            with _starting:
+                self._start()
         self._lines, self._taken, self._handed, self._said, self.ending = "", 0, 0, None, None
 
     def _start(self) -> None:
@@ -446,5 +449,23 @@ class Program(contextlib.AbstractContextManager["Program"]):
             self.kill()
 
 
-_programs: weakref.WeakSet[Program] = weakref.WeakSet()  # of this process
-os.register_at_fork(after_in_child=lambda: list(map(Program.let_go, _programs)))
+# What a process that is forked off has no part in. None is while a program is started: it would have a copy of a pipe that isn't known yet.
+
+_programs, _others, _starting = weakref.WeakSet[Program](), weakref.WeakSet[Any](), threading.RLock()
+
+
+def owned(it: T) -> T:
+    """What is open, as a file or a socket, and is closed in a process that is forked off, where later something else may have its number."""
+    _others.add(it)
+    return it
+
+
+def _let_go() -> None:
+    _starting.release()
+    for run in list(_programs):
+        run.let_go()
+    for it in list(_others):
+        it.close()
+
+
+os.register_at_fork(before=_starting.acquire, after_in_parent=_starting.release, after_in_child=_let_go)

@@ -13,7 +13,9 @@ from typing import Any, Callable, Optional, Protocol, Union, cast
 from gavyreto import tds
 from gavyreto.adapting import Adapter
 from gavyreto.errors import BadAnswer, Error, Fault, ProgramFailed, Report, ServerError, UnfinishedAnswer
-from gavyreto.program import BLOCK, CHANGED, CHARSETS, COLUMN_ROOM, MAX_WIRE, OF_SIGNAL, PACKET_SIZE, PROGRAM, Ending, Program, command_of, has_changed
+from gavyreto.program import (
+    BLOCK, CHANGED, CHARSETS, COLUMN_ROOM, MAX_WIRE, OF_SIGNAL, PACKET_SIZE, PROGRAM, Ending, Program, command_of, has_changed, owned,
+)
 from gavyreto.payload import Descriptions, Ended, NotedDescriptions, Payload, Read, columns_again
 from gavyreto.text import Sets
 from gavyreto.values import Dates, check_dates
@@ -58,6 +60,7 @@ class HeldFile:
 
     def __init__(self, descriptor: int) -> None:
         self.descriptor = -1
+        owned(self)
         self.descriptor = os.dup(descriptor)
         self._start = self._at = os.lseek(descriptor, 0, os.SEEK_CUR)
         self._before = Before(self.descriptor)
@@ -240,9 +243,9 @@ def _reading(source: Source) -> tuple[Read, Callable[[], object]]:
         return io.BytesIO(source).read, lambda: None
     is_buffer = _is_buffer(source)
     if type(source) in OF_DESCRIPTORS or is_buffer:
-        own = os.fdopen(os.dup(_descriptor_of(source)), "rb", buffering=0)
+        own = owned(os.fdopen(os.dup(_descriptor_of(source)), "rb", buffering=0))
     elif isinstance(source, (str, os.PathLike)):
-        own = open(source, "rb", buffering=0)
+        own = owned(open(source, "rb", buffering=0))
     else:
         return _read_of(source), lambda: None
     before = Before(own.fileno())
