@@ -10,8 +10,7 @@ import sys
 import tempfile
 import time
 import unittest
-from concurrent.futures import ThreadPoolExecutor
-from contextlib import redirect_stderr, redirect_stdout
+from contextlib import redirect_stderr
 from typing import Any
 from unittest import mock
 
@@ -152,9 +151,10 @@ class Interrupts(Live):
 
     def test_a_command_in_another_thread(self) -> None:
         """It ends as in the main thread, which alone may set how a signal is handled."""
-        with redirect_stdout(io.StringIO()) as said, ThreadPoolExecutor(1) as thread:
-            self.assertEqual(thread.submit(entry.ending, ["columns", "--help"]).result(), ("", 0))
-        self.assertIn("usage", said.getvalue())
+        asked = "print(thread.submit(entry.ending, ['columns', '--help']).result(), file=sys.stderr)"
+        script = f"import sys\nfrom concurrent.futures import *\nfrom gavyreto import __main__ as entry\nwith ThreadPoolExecutor(1) as thread: {asked}"
+        came = subprocess.run([sys.executable, "-c", script], capture_output=True, check=False, timeout=SECONDS, **started())
+        self.assertEqual((came.stdout[:6], came.stderr), (b"usage:", b"('', 0)\n"))
 
     def test_a_signal_that_is_ignored(self) -> None:
         """Whoever starts the command, or the interpreter, may ignore that programs end: how they did is known all the same."""

@@ -52,6 +52,17 @@ class Lines(unittest.TestCase):
                 self.assertEqual((came, said[0]), (status, line))
                 self.assertFalse(any("Traceback" in it for it in said))
 
+    def test_help_that_cannot_be_written(self) -> None:
+        for command in ("query", "capture", "columns", "adapt", "many"):
+            for way, line in (("> /dev/full", "standard output: No space left on device"), (">&-", "standard output is closed")):
+                words = ["sh", "-c", f'exec "$@" {way}', "sh", *GAVYRETO, command, "--help"]
+                self.assertEqual(self.ended(words, PYTHONUNBUFFERED="1"), (5, [line]), (command, way))
+
+    def test_controls_in_arguments_are_spelt(self) -> None:
+        for words in (["columns", "--x\x1b[31m"], ["many", "-j", "\x1b[31m", "a", "b"], ["query", "-S", "h\x1b[31m:7"], ["capture", "--port", "\x1b[31m", "a", "b"]):
+            status, said = self.ended([*GAVYRETO, *words])
+            self.assertEqual((status, "\x1b" in "".join(said), r"\x1b[31m" in said[-1]), (2, False, True), said)
+
     def test_a_capture_that_is_refused_leaves_no_folder(self) -> None:
         for folder, left in (("out", False), ("there", True)):
             with self.subTest(folder=folder):

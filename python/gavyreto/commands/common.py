@@ -14,7 +14,7 @@ import stat
 import sys
 import textwrap
 import time
-from typing import Any, Callable, Iterable, Iterator, Optional, Union
+from typing import Any, Callable, Iterable, Iterator, NoReturn, Optional, Union
 
 from gavyreto import program, tds
 from gavyreto.errors import BadAnswer, ConnectionFailed, ServerError, escaped
@@ -371,7 +371,13 @@ class Help(argparse.HelpFormatter):
 
 
 class Parser(argparse.ArgumentParser):
-    """A parser that doesn't repeat the value of an option that it doesn't know: it may be a password."""
+    """A parser that doesn't repeat the value of an option that it doesn't know: it may be a password. Help that can't be written is told."""
+
+    def print_help(self, file: Any = None) -> None:
+        put(self.format_help())
+
+    def error(self, message: str) -> NoReturn:
+        super().error(escaped(message))
 
     def parse_args(self, words: Any = None, namespace: Any = None) -> Any:
         asked, unknown = self.parse_known_args(words, namespace)

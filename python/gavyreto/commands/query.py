@@ -249,7 +249,7 @@ class HelpOfSqlcmd(argparse.Action):
     def __call__(self, parser: argparse.ArgumentParser, namespace: argparse.Namespace, values: object, option_string: Optional[str] = None) -> NoReturn:
         if values is not None:
             parser.error(f"{option_string} takes nothing: the first line of a text has always the names")
-        common.put(parser.format_help())
+        parser.print_help()
         parser.exit()
 
 
