@@ -17,6 +17,13 @@ class Hidden(bytes):
         return "b''"
 
 
+class Waiting(bytearray):
+    """Bytes that become more, which may have one in them."""
+
+    def __repr__(self) -> str:
+        return "bytearray()"
+
+
 class Secret(str):
     """A password or a token, which isn't shown there either."""
 

@@ -5,6 +5,8 @@ import struct
 from enum import IntEnum
 from typing import Callable, Iterable, Iterator, Union
 
+from gavyreto.logins import Hidden, Waiting
+
 Bytes = Union[bytes, bytearray, memoryview]
 
 HEADER = 8  # bytes of a packet's header
@@ -31,11 +33,11 @@ ANSWER = int(PacketType.ANSWER)  # compared with once a packet
 
 def packets(pieces: Iterable[Bytes], size: int, kind: int = PacketType.ANSWER) -> Iterator[bytes]:
     """The joined pieces in packets of this size, headers included, the last of them marked."""
-    waiting, body, number = bytearray(), size - HEADER, 1
+    waiting, body, number = Waiting(), size - HEADER, 1
     for piece in pieces:
         waiting += piece
         while len(waiting) > body:
-            yield packet(kind, waiting[:body], False, number)
+            yield packet(kind, Hidden(waiting[:body]), False, number)
             del waiting[:body]
             number += 1
     yield packet(kind, waiting, True, number)

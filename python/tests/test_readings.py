@@ -26,6 +26,7 @@ from unittest import mock
 import gavyreto
 from gavyreto import tds
 from gavyreto.connection import Channel, Server
+from gavyreto.logins import Hidden, Secret
 from gavyreto.text import Sets
 from tests.beside import (
     PROGRAM, SECONDS, Live, answered, context_of, interrupted, listening, log_in, log_in_encrypted, meanwhile, responses, saying_goodbye, served, serving, wait_for,
@@ -699,6 +700,26 @@ class Connections(Live):
             self.assert_hidden(lambda: connected(port, password="geheim"))
         with serving() as port, mock.patch.object(socket.socket, "send", send):
             self.assert_hidden(lambda: connected(port, password="geheim"))
+
+    def test_a_password_is_not_in_what_is_logged_of_an_interrupt(self) -> None:
+        """It comes at any line while a login is made, and laid out in packets."""
+        asked, at, is_come = tds.Login("h", "u", Secret("geheim" * 20), "p", "s", "", "", "", 512), 0, True
+
+        def come() -> None:
+            nonlocal is_come
+            is_come = True
+            raise KeyboardInterrupt
+
+        def lay_out() -> None:
+            nonlocal at, is_come
+            at, is_come = at + 1, False
+            meanwhile(at, lambda: [len(it) for it in map(Hidden, tds.packets([tds.login(asked, 0)], 100, tds.PacketType.LOGIN))], come)
+            if not is_come:
+                connected(0)  # which is refused too
+
+        while is_come:
+            self.assert_hidden(lay_out)
+        self.assertGreater(at, 50)
 
     def assert_hidden(self, call: Callable[[], object]) -> None:
         """A call raises an error, and no frame of the package has a variable with the password, disguised or not."""
