@@ -93,7 +93,7 @@ class Connection(Single, contextlib.AbstractContextManager["Connection"]):
             pass
 
 
-class Cursor(contextlib.AbstractContextManager["Cursor"]):
+class Cursor(Single, contextlib.AbstractContextManager["Cursor"]):
     """A cursor of Python's DB-API (PEP 249) over the answer to one statement, set by set. A context that closes it."""
 
     def __init__(self, connection: Connection) -> None:

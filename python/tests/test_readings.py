@@ -345,7 +345,7 @@ class Rows(unittest.TestCase):
         rows = next(came)
         with serving() as port, connected(port) as connection:
             calls: list[Callable[[Any], Any]] = [copy.copy, copy.deepcopy, pickle.dumps]
-            for it, call in product((came, rows, rows.open(), connection), calls):
+            for it, call in product((came, rows, rows.open(), connection, connection.cursor()), calls):
                 with self.subTest(type(it).__name__, call=call), self.assertRaisesRegex(TypeError, "has no copies"):
                     call(it)
 
