@@ -41,7 +41,7 @@ class Record:
 
 
 R = TypeVar("R", bound=Record)
-State = tuple[int, int, int]  # of a file: its inode, its bytes, and the time of its last write
+State = tuple[int, int, int, int]  # of a file: its inode, its bytes, and the times of its last write and of its last change
 
 
 class Table(Generic[R]):
@@ -112,7 +112,7 @@ class Table(Generic[R]):
         """What tells a text from another one of its name; None if none is there."""
         with contextlib.suppress(OSError):
             found = os.lstat(os.path.join(self._folder, text))
-            return found.st_ino, found.st_size, found.st_mtime_ns
+            return found.st_ino, found.st_size, found.st_mtime_ns, found.st_ctime_ns
         return None
 
     def _is_old(self, text: str) -> bool:
@@ -125,11 +125,16 @@ class Table(Generic[R]):
         write(self._path, self._descriptor, data)
         self._size += len(data)
         found = os.stat(self._path)
-        if found.st_size != self._size or not os.path.samestat(found, os.fstat(self._descriptor)):
+        self._check(found.st_size == self._size and os.path.samestat(found, os.fstat(self._descriptor)))
+
+    def _check(self, is_own: bool) -> None:
+        if not is_own:
             raise Stopped(f"{self._path}: something else writes it too, and lines are lost", FAILED)
 
     def shown(self) -> str:
-        """The name of the table, from the folder that the command runs in."""
+        """The name of the table, from the folder that the command runs in, once all is written. Raises `Stopped` if it hasn't all lines."""
+        with open(self._path, "rb") as file:
+            self._check(file.read() == self._header + b"".join(map(_line_of, self.records.values())))
         return os.path.relpath(self._path)
 
     def fill(self, records: Generator[R, None, None], progress: Progress) -> None:

@@ -387,9 +387,11 @@ class Here(Many):
             self.assertEqual((os.lstat(table.name).st_mode, os.stat(another.name).st_size), (stat.S_IFREG | 0o600, 7))
 
     def test_a_table_that_is_saved_meanwhile(self) -> None:
-        """By an editor that makes another file of its name, or writes into it what was there before: the run ends, as lines are lost."""
+        """By an editor that makes another file of its name, or writes into it what was there before, also one as long: the run ends, as lines
+        are lost."""
         self.store(3)
-        for save in ("mv saved out/outcomes.csv", "cat saved > out/outcomes.csv"):
+        swapped = "{ tr 0-9 1-90 < out/outcomes.csv > other; cat other > out/outcomes.csv; }"
+        for save in ("mv saved out/outcomes.csv", "cat saved > out/outcomes.csv", swapped):
             saving = self.relaying(f"test -f saved || cp out/outcomes.csv saved; test ! -f out/000.csv || {save}; :")
             line = f"{self.path('out', 'outcomes.csv')}: something else writes it too, and lines are lost"
             self.assertEqual(self.many("-j", "1", "--program", saving, "in", "out"), (5, line))
@@ -424,6 +426,16 @@ class Here(Many):
                 with open(self.path("out", name), "rb") as file:
                     self.assertEqual(file.read(), b"another")
                 shutil.rmtree(self.path("out"))
+
+    def test_an_earlier_text_that_is_written_anew_meanwhile(self) -> None:
+        """It stays, also with the size and the time that it had."""
+        self.store(1)
+        self.assertEqual(self.many("--program", PROGRAM, "in", "out")[0], 0)
+        writing = self.relaying("cp -p out/000.csv old; tr 0-9 1-90 < old > new; cat new > out/000.csv; touch -r old out/000.csv")
+        self.assertEqual(self.many("--program", writing, "in", "out")[0], 5)
+        self.assertEqual(self.table()[0][1:], (5, "000.csv: File exists"))
+        with open(self.path("out", "000.csv"), "rb") as text, open(self.path("new"), "rb") as new:
+            self.assertEqual(text.read(), new.read())
 
     def test_a_table_that_is_cut_or_damaged(self) -> None:
         """Of one that is cut anywhere the whole lines count; one that lacks a byte elsewhere, or has another, keeps its lines or is none."""
