@@ -1,6 +1,7 @@
 """Result sets of a response, while the program reads it."""
 from __future__ import annotations
 
+import contextlib
 import errno
 import io
 import os
@@ -29,7 +30,6 @@ class Readable(Protocol):
 
 Source = Union[str, "os.PathLike[str]", bytes, bytearray, memoryview, int, socket.socket, Readable]
 OF_DESCRIPTORS = (int, io.FileIO, socket.socket)  # read by their descriptors; a subclass, as ssl.SSLSocket, by its own method
-BUFFERS = (io.BufferedReader, io.BufferedRandom)
 Copy = Callable[[], bool]  # hands the packets over: whether all of them were there
 SOME = 4096  # bytes that are compared
 Unfinished = Callable[[], Optional[str]]  # what there is to say of an answer that the server ended as cancelled or failed
@@ -48,9 +48,9 @@ class Before:
         places = (0, size // 2, max(size - SOME, 0)) if size else ()
         return [os.pread(self._descriptor, min(SOME, size - place), place) for place in places]
 
-    def check(self) -> None:
-        """Raises OSError if it was written to since; not if others follow the responses that were there."""
-        if has_changed(self._found, self._descriptor) and (
+    def check(self, is_other: bool = False) -> None:
+        """Raises OSError if it was another one, or was written to since; not if others follow the responses that were there."""
+        if is_other or has_changed(self._found, self._descriptor) and (
                 os.fstat(self._descriptor).st_size <= self._found.st_size or self._read_some() != self._some):
             raise OSError(errno.EBUSY, CHANGED)
 
@@ -241,28 +241,40 @@ def _reading(source: Source) -> tuple[Read, Callable[[], object]]:
     """What reads a source, and what ends that, which fails if it is a file that changed meanwhile."""
     if isinstance(source, (bytes, bytearray, memoryview)):
         return io.BytesIO(source).read, lambda: None
-    is_buffer = _is_buffer(source)
-    if type(source) in OF_DESCRIPTORS or is_buffer:
-        own = owned(os.fdopen(os.dup(_descriptor_of(source)), "rb", buffering=0))
-    elif isinstance(source, (str, os.PathLike)):
-        own = owned(open(source, "rb", buffering=0))
-    else:
-        return _read_of(source), lambda: None
+    if isinstance(source, (str, os.PathLike)) or type(source) in OF_DESCRIPTORS:
+        name = source if isinstance(source, (str, os.PathLike)) else os.dup(_descriptor_of(source))
+        own = owned(open(name, "rb", buffering=0))
+        return _watched(lambda most: own.read(most) or b"", own)
+    read, descriptor = _read_of(source), _file_of(source)
+    if descriptor < 0:
+        return read, lambda: None
+    held, at = _held_by(source)
+    return _watched(read, owned(open(os.dup(descriptor), "rb", buffering=0)), held, at)
+
+
+def _watched(read: Read, own: io.FileIO, held: bytes = b"", at: int = 0) -> tuple[Read, Callable[[], object]]:
+    """The same, of a file that is open here too, of which the source has read some bytes from a place on already."""
     before = Before(own.fileno())
+    is_other = os.pread(own.fileno(), len(held), at) != held if held else False
 
     def close() -> None:
         with own:
-            before.check()
+            before.check(is_other)
 
-    return _read_of(source) if is_buffer else lambda most: own.read(most) or b"", close
+    return read, close
 
 
-def _is_buffer(source: Any) -> bool:
-    """Whether a source is the buffer of a regular file."""
-    try:
-        return isinstance(source, BUFFERS) and stat.S_ISREG(os.fstat(source.fileno()).st_mode)
-    except (AttributeError, OSError, ValueError):  # it is closed, or that of something else, as of what is packed in a file
-        return False
+def _file_of(source: Any) -> int:
+    """The descriptor of the regular file that an object reads, also one that is packed; -1 if there is none."""
+    with contextlib.suppress(AttributeError, OSError, TypeError, ValueError):  # it has none, or is closed
+        descriptor: int = source.fileno()
+        return descriptor if stat.S_ISREG(os.fstat(descriptor).st_mode) else -1
+    return -1
+
+
+def _held_by(source: Any) -> tuple[bytes, int]:
+    """What the buffer of a file holds of it, and from which place on."""
+    return (source.peek(), source.tell()) if type(getattr(source, "raw", None)) is io.FileIO else (b"", 0)
 
 
 def adapt_all(adapter: Adapter, found: NotedDescriptions) -> bool:

@@ -480,7 +480,8 @@ class Sources(unittest.TestCase):
             with open(path, "wb") as file:
                 file.write(wire("orders"))
             with open(path, "rb", buffering=0) as raw, open(path, "rb") as buffered:
-                for source, adapts in product((path, raw, buffered, raw.fileno(), stream), (False, True)):
+                sources: list[gavyreto.Source] = [path, raw, buffered, raw.fileno(), stream]
+                for source, adapts in product(sources, (False, True)):
                     before = opened()
                     try:
                         gavyreto.export(source, program="/not/here", adapt=adapts)
