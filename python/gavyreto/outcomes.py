@@ -5,6 +5,7 @@ import contextlib
 import os
 import re
 import socket
+import sys
 import threading
 import time
 from dataclasses import dataclass, fields
@@ -22,6 +23,7 @@ from gavyreto.values import value_of
 
 TABLE = "outcomes.csv"
 TEXT, PARTIAL = ".csv", ".csv.partial"  # behind the name of what a text is of
+ENCODING = "ascii" if sys.getfilesystemencoding() == "ascii" else "utf-8"  # in the first the bytes of other names are what they are in paths
 UNFINISHED = ".unfinished"  # at the end of the name of a text that waits for its own
 TORN = re.compile(r'(?:(?:"[^"]*(?:""[^"]*)*"|[^",\r\n]+),)*(?:"[^"]*(?:""[^"]*)*"?|[^",\r\n]*)\r?')  # the beginning of a line
 # What the values of a field may be, by its annotation.
@@ -75,7 +77,7 @@ class Table(Generic[R]):
         """The lines of a table, or None if it is another table."""
         if not data.startswith(self._header):
             return [] if not data else None
-        text, at = data.decode("utf-8", "surrogateescape"), len(self._header)
+        text, at = data.decode(ENCODING, "surrogateescape"), len(self._header)
         records: list[R] = []
         while at < len(text):
             try:

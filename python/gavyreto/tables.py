@@ -6,6 +6,7 @@ import contextlib
 import os
 import queue
 import re
+import sys
 import threading
 import time
 from dataclasses import dataclass
@@ -63,7 +64,11 @@ def _wrong_in(name: str, rest: str) -> str:
     """What is wrong with the name of a text, and what stands behind it; "" if nothing is."""
     if "/" in name or "\0" in name or name + TEXT == TABLE:
         return f"has a slash, or is that of the table of outcomes, {TABLE}"
-    if len(os.fsencode(name)) > LONGEST_NAME:
+    try:
+        length = len(os.fsencode(name))
+    except UnicodeEncodeError:
+        return f"can't be that of a file, as names are {sys.getfilesystemencoding()} here: LC_ALL=C.UTF-8 has all"
+    if length > LONGEST_NAME:
         return f"has more than {LONGEST_NAME} bytes"
     return f"has a statement of more than {LONGEST_STATEMENT} characters" if len(rest) > LONGEST_STATEMENT else ""
 

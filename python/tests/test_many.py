@@ -542,6 +542,17 @@ class Here(Many):
             texts = {name for name in os.listdir(os.fsencode(self.path("out")))}
             self.assertEqual(texts, {b"000.csv", b"outcomes.csv", *(name + b".csv" for name in names[:4])})
 
+    def test_names_beyond_ascii_where_python_knows_no_others(self) -> None:
+        """What is done is known by the line that it has, whatever Python takes names for."""
+        with open(self.path("in", "nö"), "wb") as file:
+            file.write(KINDS)
+        made = []
+        for variables in ({"LC_ALL": "C.UTF-8"}, {"LC_ALL": "C", "PYTHONUTF8": "0"}, {"LC_ALL": "C", "PYTHONUTF8": "0"}):
+            with mock.patch.dict(os.environ, variables):
+                self.assertEqual(self.many("--program", PROGRAM, "in", "out")[0], 0)
+            made.append(self.made())
+        self.assertEqual((made[1:], [name for name, _, _ in self.table()]), (made[:1] * 2, ["nö"]))
+
     def test_a_response_that_the_server_ended_unfinished(self) -> None:
         self.store(0, cancelled=answered(*list(responses.order_rows(0)), served.done(tds.CANCELLED)))
         self.assertEqual(self.many("--program", PROGRAM, "in", "out"), (3, "1 responses: 0 done, 1 with an error of the server, 0 refused, 0 failed"))

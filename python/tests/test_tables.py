@@ -214,6 +214,9 @@ class Tables(unittest.TestCase):
                 with self.subTest(line=line):
                     self.assertEqual((came.returncode, came.stderr.count(b"\n")), (2, 1))
                     self.assertIn(line, came.stderr.decode())
+            with mock.patch.dict(os.environ, LC_ALL="C", PYTHONUTF8="0"):
+                came = ask_port(port, "--tables", self.write(["nö"]), "-o", self.out)
+            self.assertEqual((came.returncode, b"tables, line 1: the name n\\xf6 can't be that of a file" in came.stderr), (2, True), came.stderr)
             for words in (["--tables", self.write(["a"])], ["--tables", self.write(["a"]), "-o", self.out, "SELECT 1"], ["--tables", self.write(["a"]), "-o", self.out, "--packets", "x{}"]):
                 self.assertEqual(ask_port(port, *words).returncode, 2)
         self.assertEqual((server.logins, os.path.exists(self.out)), (0, False))
