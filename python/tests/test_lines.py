@@ -59,8 +59,8 @@ class Lines(unittest.TestCase):
                 self.assertEqual(self.ended(words, PYTHONUNBUFFERED="1"), (5, [line]), (command, way))
 
     def test_controls_in_arguments_are_spelt(self) -> None:
-        for words in (["columns", "--x\x1b[31m"], ["many", "-j", "\x1b[31m", "a", "b"], ["query", "-S", "h\x1b[31m:7"], ["capture", "--port", "\x1b[31m", "a", "b"]):
-            status, said = self.ended([*GAVYRETO, *words])
+        for words in ("columns --x?", "many -j ? a b", "query -S h?:7", "capture --port ? a b"):
+            status, said = self.ended([*GAVYRETO, *words.replace("?", "\x1b[31m").split()])
             self.assertEqual((status, "\x1b" in "".join(said), r"\x1b[31m" in said[-1]), (2, False, True), said)
 
     def test_a_capture_that_is_refused_leaves_no_folder(self) -> None:

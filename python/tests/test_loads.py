@@ -87,7 +87,8 @@ class Loads(unittest.TestCase):
         script = os.path.join(ROOT, "examples", "recipes", "binary_value.py")
         for text, value, line in (
             (b"0x0a1b\r\n", b"\x0a\x1b", b""), (b"0x\r\n", b"", b""), (b"0x0a1b", b"\x0a\x1b", b"the text ends within a row\n"),
-            (b"NULL\r\n", b"", b"no binary value\n"), (b"0x0a,0x1b\r\n", b"", b"more or less than a binary value\n"), (b"0x0a1", b"", b"more or less than a binary value\n"),
+            (b"NULL\r\n", b"", b"no binary value\n"), (b"0x0a,0x1b\r\n", b"", b"more or less than a binary value\n"),
+            (b"0x0a1", b"", b"more or less than a binary value\n"),
         ):
             came = subprocess.run([sys.executable, "-O", script], input=b'"a"\r\n' + text, capture_output=True, check=False)
             self.assertEqual((came.returncode, came.stdout, came.stderr), (int(bool(line)), value, line))

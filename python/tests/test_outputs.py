@@ -391,7 +391,8 @@ class Outputs(Live):
                 os.mkfifo(os.path.join(path, "pipe"))
                 with open(os.path.join(path, "in.tds"), "wb") as file:
                     file.write(self.text("orders.tds"))
-                came = subprocess.run(["sh", "-c", f"exec 3<> pipe; cat in.tds >&3; $GAVYRETO {words}"], cwd=path, check=False, capture_output=True, timeout=SECONDS, **asking())
+                script = f"exec 3<> pipe; cat in.tds >&3; $GAVYRETO {words}"
+                came = subprocess.run(["sh", "-c", script], cwd=path, check=False, capture_output=True, timeout=SECONDS, **asking())
                 self.assertEqual((came.stdout, came.stderr.decode()), (b"", line + "\n"))
 
 
