@@ -10,7 +10,6 @@ import select
 import shutil
 import stat
 import subprocess
-import threading
 import time
 import weakref
 from typing import IO, Any, Callable, NamedTuple, Optional, TypeVar, Union, cast
@@ -245,8 +244,7 @@ class Program(contextlib.AbstractContextManager["Program"]):
         if self._process and (self._is_under_way() or not self.is_reading or self._process.args != self._words() or self._process.poll() is not None):
             self.close()
         if self._process is None:
-            with _starting:
-                self._start()
+            self._start()
         self._lines, self._taken, self._handed, self._said, self.ending = "", 0, 0, None, None
 
     def _start(self) -> None:
@@ -449,9 +447,9 @@ class Program(contextlib.AbstractContextManager["Program"]):
             self.kill()
 
 
-# What a process that is forked off has no part in. None is while a program is started: it would have a copy of a pipe that isn't known yet.
+# What a process that is forked off has no part in.
 
-_programs, _others, _starting = weakref.WeakSet[Program](), weakref.WeakSet[Any](), threading.RLock()
+_programs, _others = weakref.WeakSet[Program](), weakref.WeakSet[Any]()
 
 
 def owned(it: T) -> T:
@@ -461,11 +459,9 @@ def owned(it: T) -> T:
 
 
 def _let_go() -> None:
-    _starting.release()
-    for run in list(_programs):
-        run.let_go()
-    for it in list(_others):
-        it.close()
+    for end in [*(it.let_go for it in _programs), *(it.close for it in _others)]:
+        with contextlib.suppress(OSError):  # it was closed by its number, which keeps nothing else open
+            end()
 
 
-os.register_at_fork(before=_starting.acquire, after_in_parent=_starting.release, after_in_child=_let_go)
+os.register_at_fork(after_in_child=_let_go)

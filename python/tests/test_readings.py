@@ -11,7 +11,6 @@ import pickle
 import random
 import signal
 import socket
-import subprocess
 import sys
 import tempfile
 import threading
@@ -20,7 +19,7 @@ import traceback
 import unittest
 from collections.abc import Callable
 from itertools import islice, product
-from typing import IO, Any, cast
+from typing import Any, cast
 from unittest import mock
 
 import gavyreto
@@ -416,27 +415,6 @@ class Rows(unittest.TestCase):
                     os._exit(dropped.called or not all(os.path.exists(f"/proc/self/fd/{it}") for it in others))
                 it.close()
                 self.assertEqual(os.waitpid(process, 0)[1], 0, ways.index(way))
-
-    def test_a_process_that_is_forked_off_while_a_program_begins(self) -> None:
-        """It has no pipe of that: it would have the program wait for more for ever."""
-        pipes, forked = set[str](), list[int]()
-
-        def fork() -> None:
-            if not (process := os.fork()):
-                os._exit(bool(pipes & {os.readlink(it.path) for it in os.scandir("/proc/self/fd") if os.path.lexists(it.path)}))
-            forked.append(process)
-
-        class Forking(subprocess.Popen[bytes]):
-            def __init__(self, *words: Any, **options: Any) -> None:
-                super().__init__(*words, **options)
-                pipes.update(os.readlink(f"/proc/self/fd/{cast(IO[bytes], it).fileno()}") for it in (self.stdin, self.stdout, self.stderr))
-                thread.start()
-                thread.join(1)  # it goes on once the program has begun
-
-        thread = threading.Thread(target=fork)
-        with mock.patch.object(subprocess, "Popen", Forking), gavyreto.export(io.BytesIO(wire("orders")), program=PROGRAM):
-            thread.join(SECONDS)
-        self.assertEqual(os.waitpid(forked[0], 0)[1], 0)
 
     def test_the_time_is_linear(self) -> None:
         """Text with many quotes, in a column before one that is NULL in the first block only: twice the text takes about twice the time."""
