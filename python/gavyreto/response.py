@@ -50,8 +50,8 @@ class Before:
 
     def check(self, is_other: bool = False) -> None:
         """Raises OSError if it was another one, or was written to since; not if others follow the responses that were there."""
-        if is_other or has_changed(self._found, self._descriptor) and (
-                os.fstat(self._descriptor).st_size <= self._found.st_size or self._read_some() != self._some):
+        is_longer = os.fstat(self._descriptor).st_size > self._found.st_size
+        if is_other or self._read_some() != self._some or has_changed(self._found, self._descriptor) and not is_longer:
             raise OSError(errno.EBUSY, CHANGED)
 
 

@@ -90,6 +90,12 @@ def write_over(path: str, data: bytes) -> None:
         file.truncate()
 
 
+def write_over_unseen(path: str, data: bytes) -> None:
+    """As many bytes, by whom a file system sees nothing of, as its times are those of seconds, or by what it tells later."""
+    write_over(path, data)
+    os.utime(path, LONG_AGO)
+
+
 def append(path: str, data: bytes) -> None:
     with open(path, "ab") as file:
         file.write(data)
@@ -157,6 +163,23 @@ class Changes(unittest.TestCase):
                     if is_other:
                         stack.enter_context(self.assertRaisesRegex(OSError, "it changed while it was read"))
                     self.assertEqual(all_of(gavyreto.export(source, program=PROGRAM, adapt=True)), old.rows)
+
+    def test_a_change_that_no_time_tells(self) -> None:
+        """It is seen in what is read again of the file: at its beginning, in its middle and at its end."""
+        rows, others = rows_of(1, 300), rows_of(2, 300)
+        for place, adapts in product((0, 150, 299), (False, True)):
+            old, new = (response_of(it, adapts) for it in (rows, [*rows[:place], others[place], *rows[place + 1:]]))
+            with tempfile.TemporaryDirectory() as folder, self.subTest(place=place, adapts=adapts):
+                path = os.path.join(folder, "file")
+                replace(path, old.data)
+                os.utime(path, LONG_AGO)
+                with open(path, "rb") as file:
+                    for source in (path, file):
+                        with gavyreto.export(source, program=PROGRAM, adapt=adapts) as sets:
+                            found = sets.only()
+                            found.fetchone()
+                            write_over_unseen(path, new.data if source is path else old.data)
+                            self.assertRaisesRegex(OSError, "it changed while it was read", found.fetchall)
 
     def test_responses_that_are_rewritten(self) -> None:
         self.run_cases(by_command, lambda rows: response_of(rows, True))
