@@ -13,7 +13,7 @@ import unittest
 from collections import Counter
 from collections.abc import Callable
 from itertools import product
-from typing import IO, Any, NamedTuple, cast
+from typing import IO, Any, NamedTuple, Optional, cast
 
 import gavyreto
 from gavyreto import tds
@@ -74,6 +74,19 @@ def by_open_file(path: str, opened: Callable[[str, str], IO[bytes]], adapts: boo
 
 class OtherFile(io.FileIO):
     """A file of a type that is read by its own method."""
+
+
+class ChangingFile(OtherFile):
+    """A file over which others are written once some of it was read."""
+
+    def __init__(self, path: str, data: bytes) -> None:
+        super().__init__(path)
+        self._path, self._data = path, data
+
+    def read(self, most: Optional[int] = -1, /) -> bytes:
+        if self.tell() > 0:
+            write_over_unseen(self._path, self._data)
+        return super().read(most)
 
 
 def by_command(path: str) -> Rows:
@@ -173,13 +186,11 @@ class Changes(unittest.TestCase):
                 path = os.path.join(folder, "file")
                 replace(path, old.data)
                 os.utime(path, LONG_AGO)
-                with open(path, "rb") as file:
-                    for source in (path, file):
-                        with gavyreto.export(source, program=PROGRAM, adapt=adapts) as sets:
-                            found = sets.only()
-                            found.fetchone()
-                            write_over_unseen(path, new.data if source is path else old.data)
-                            self.assertRaisesRegex(OSError, "it changed while it was read", found.fetchall)
+                with ChangingFile(path, new.data) as file:
+                    self.assertRaisesRegex(OSError, "it changed while it was read", all_of, gavyreto.export(file, program=PROGRAM, adapt=adapts))
+                with gavyreto.export(path, program=PROGRAM) as sets:
+                    write_over_unseen(path, old.data)
+                    self.assertRaisesRegex(gavyreto.Fault if adapts else OSError, "Refused" if adapts else "it changed", all_of, sets)
 
     def test_responses_that_are_rewritten(self) -> None:
         self.run_cases(by_command, lambda rows: response_of(rows, True))
