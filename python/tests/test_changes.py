@@ -13,7 +13,7 @@ import unittest
 from collections import Counter
 from collections.abc import Callable
 from itertools import product
-from typing import IO, Any, NamedTuple, Optional, cast
+from typing import IO, Any, NamedTuple, cast
 
 import gavyreto
 from gavyreto import tds
@@ -83,7 +83,7 @@ class ChangingFile(OtherFile):
         super().__init__(path)
         self._path, self._data = path, data
 
-    def read(self, most: Optional[int] = -1, /) -> bytes:
+    def read(self, most: int = -1, /) -> bytes:
         if self.tell() > 0:
             write_over_unseen(self._path, self._data)
         return super().read(most)
