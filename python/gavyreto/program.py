@@ -30,6 +30,7 @@ F_SETPIPE_SZ, ROOM_OF_PIPE = 1031, 1 << 20  # of Linux
 ROOM_OF_FEW = 4096  # bytes that each pipe has room for at once
 VERSION = re.compile(rf"({PROGRAM} \d+(?:\.\d+)*)(?: \(sources [0-9a-f]+\))?", re.ASCII)
 BLOCK = 1 << 18  # bytes that are moved at once, at most
+SOME = 4096  # bytes that are compared, of files that may change
 CHANGED = "it changed while it was read"
 PATIENCE = 5.0  # seconds in which a program ends whose input is over, or text comes that its lines count
 SECONDS_OF_VERSION = 60  # in which a program says its version
@@ -157,10 +158,25 @@ def write_all(descriptor: int, data: bytes) -> None:
         left = left[os.write(descriptor, left):]
 
 
-def has_changed(before: os.stat_result, descriptor: int) -> bool:
-    """Whether a file was written to since."""
-    found = os.fstat(descriptor)
-    return stat.S_ISREG(found.st_mode) and (found.st_size, found.st_mtime_ns) != (before.st_size, before.st_mtime_ns)
+class Before:
+    """A file as it was where its reading began."""
+
+    def __init__(self, descriptor: int) -> None:
+        self.found = os.fstat(descriptor)
+        self._descriptor, self._is_file = descriptor, stat.S_ISREG(self.found.st_mode)
+        self._some = self._read_some()
+
+    def _read_some(self) -> list[bytes]:
+        """What is at its beginning, in its middle and at its end, from which others would differ, also where no time tells of a change."""
+        size = self.found.st_size if self._is_file else 0
+        places = (0, size // 2, max(size - SOME, 0)) if size else ()
+        return [os.pread(self._descriptor, min(SOME, size - place), place) for place in places]
+
+    def has_changed(self, may_grow: bool = False) -> bool:
+        """Whether it was written to since; not if more follows what was there, where that may be."""
+        found, before = os.fstat(self._descriptor), self.found
+        is_told = self._is_file and (found.st_size, found.st_mtime_ns) != (before.st_size, before.st_mtime_ns)
+        return self._read_some() != self._some or is_told and not (may_grow and found.st_size > before.st_size)
 
 
 def command_of(program: str, packet_size: int, column_room: int, max_wire: int, charset: str) -> list[str]:

@@ -15,7 +15,7 @@ from gavyreto import tds
 from gavyreto.adapting import Adapter
 from gavyreto.errors import BadAnswer, Error, Fault, ProgramFailed, Report, ServerError, UnfinishedAnswer
 from gavyreto.program import (
-    BLOCK, CHANGED, CHARSETS, COLUMN_ROOM, MAX_WIRE, OF_SIGNAL, PACKET_SIZE, PROGRAM, Ending, Program, command_of, has_changed, owned,
+    BLOCK, CHANGED, CHARSETS, COLUMN_ROOM, MAX_WIRE, OF_SIGNAL, PACKET_SIZE, PROGRAM, Before, Ending, Program, command_of, owned,
 )
 from gavyreto.payload import Descriptions, Ended, NotedDescriptions, Payload, Read, columns_again
 from gavyreto.text import Sets
@@ -31,28 +31,13 @@ class Readable(Protocol):
 Source = Union[str, "os.PathLike[str]", bytes, bytearray, memoryview, int, socket.socket, Readable]
 OF_DESCRIPTORS = (int, io.FileIO, socket.socket)  # read by their descriptors; a subclass, as ssl.SSLSocket, by its own method
 Copy = Callable[[], bool]  # hands the packets over: whether all of them were there
-SOME = 4096  # bytes that are compared
 Unfinished = Callable[[], Optional[str]]  # what there is to say of an answer that the server ended as cancelled or failed
 
 
-class Before:
-    """A file as it was where its reading began."""
-
-    def __init__(self, descriptor: int) -> None:
-        self._descriptor, self._found = descriptor, os.fstat(descriptor)
-        self._some = self._read_some()
-
-    def _read_some(self) -> list[bytes]:
-        """What is at its beginning, in its middle and at its end, from which other responses would differ."""
-        size = self._found.st_size if stat.S_ISREG(self._found.st_mode) else 0
-        places = (0, size // 2, max(size - SOME, 0)) if size else ()
-        return [os.pread(self._descriptor, min(SOME, size - place), place) for place in places]
-
-    def check(self, is_other: bool = False) -> None:
-        """Raises OSError if it was another one, or was written to since; not if others follow the responses that were there."""
-        is_longer = os.fstat(self._descriptor).st_size > self._found.st_size
-        if is_other or self._read_some() != self._some or has_changed(self._found, self._descriptor) and not is_longer:
-            raise OSError(errno.EBUSY, CHANGED)
+def check(before: Before, is_other: bool = False) -> None:
+    """Raises OSError if a file was another one, or was written to since; not if others follow the responses that were there."""
+    if is_other or before.has_changed(may_grow=True):
+        raise OSError(errno.EBUSY, CHANGED)
 
 
 class HeldFile:
@@ -69,7 +54,7 @@ class HeldFile:
         """The next bytes. Raises OSError if they may be those of another response."""
         data = os.pread(self.descriptor, most, self._at)
         self._at += len(data)
-        self._before.check()
+        check(self._before)
         return data
 
     def unfinished(self) -> Optional[str]:
@@ -78,7 +63,7 @@ class HeldFile:
         while not framing.is_over and (block := os.pread(self.descriptor, BLOCK, at)):
             framing.take(block)
             at += len(block)
-        self._before.check()
+        check(self._before)
         return tds.unfinished(framing.tail)
 
     def close(self) -> None:
@@ -259,7 +244,7 @@ def _watched(read: Read, own: io.FileIO, held: bytes = b"", at: int = 0) -> tupl
 
     def close() -> None:
         with own:
-            before.check(is_other)
+            check(before, is_other)
 
     return read, close
 

@@ -15,7 +15,7 @@ from typing import Any, Callable, Iterator, NamedTuple, NoReturn, Optional, Sequ
 from gavyreto.columns import FLOATS, Column
 from gavyreto.errors import Error, Interrupted, MalformedText, NotOneSet, PassedOver, UnfinishedText, check_own, is_of
 from gavyreto.payload import Descriptions
-from gavyreto.program import CHANGED, has_changed, owned
+from gavyreto.program import CHANGED, Before, owned
 from gavyreto.records import BLOCK, SEPARATOR, LongField, LongRecord, OpenField, Read, Records, end_of_set, joined, outlined, record_at
 from gavyreto.rows import Row, row_type
 from gavyreto.values import BINARY, FLOAT, NULL, QUOTE, Converter, Dates, Value, check_dates, value_of
@@ -694,11 +694,11 @@ class Text(Sets):
 
     def __init__(self, path: Union[str, os.PathLike[str]], dates: Dates) -> None:
         self._file = owned(open(path, "rb", buffering=0))
-        self._before = os.fstat(self._file.fileno())
+        self._before = Before(self._file.fileno())
         super().__init__(lambda most: self._file.read(most) or b"", dates)
 
     def _judge_end(self, rest: str) -> None:
-        if has_changed(self._before, self._file.fileno()):
+        if self._before.has_changed():
             self._raise(OSError(errno.EBUSY, CHANGED))
         super()._judge_end(rest)
 

@@ -120,7 +120,7 @@ def replace(path: str, data: bytes) -> None:
     os.replace(file.name, path)
 
 
-CHANGES = (write_over, write_over, append, replace)
+CHANGES = (write_over, write_over_unseen, append, replace)
 
 
 class Changes(unittest.TestCase):

@@ -279,9 +279,10 @@ class Input(io.FileIO):
         self.shown = STREAMS[STANDARD_INPUT] if name == "-" else name  #: its name, for a line
         with naming(self.shown):
             super().__init__(needed(STANDARD_INPUT) if name == "-" else name, closefd=name != "-")
-        self._before = os.fstat(self.fileno())
+            self._before = program.Before(self.fileno())
+        found = self._before.found
         for number in (STANDARD_OUTPUT, STANDARD_ERROR):
-            if stat.S_ISFIFO(self._before.st_mode) and os.path.samestat(self._before, os.fstat(number)):
+            if stat.S_ISFIFO(found.st_mode) and os.path.samestat(found, os.fstat(number)):
                 self.close()
                 raise Stopped(f"{self.shown}: {STREAMS[number]} is the same pipe, whose end would never come", REFUSED)
 
@@ -290,7 +291,7 @@ class Input(io.FileIO):
             count: Optional[int] = super().readinto(room)
             if count is None:
                 raise BlockingIOError(errno.EAGAIN, "nothing is there yet, and it doesn't block")
-            if not count and len(room) and program.has_changed(self._before, self.fileno()):
+            if not count and len(room) and self._before.has_changed():
                 raise Changed(f"{self.shown}: {program.CHANGED}", FAILED)
         return count
 
