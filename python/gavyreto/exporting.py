@@ -84,7 +84,8 @@ def _ending_of(source: int, output: Output, run: Program, adapts: Optional[str])
     def following() -> bytes:
         block = os.read(source, BLOCK) if run.is_reading and not framing.is_over else b""
         taken = framing.take(block)
-        os.lseek(source, taken - len(block), os.SEEK_CUR)
+        if taken < len(block):
+            os.lseek(source, taken - len(block), os.SEEK_CUR)
         return block[:taken]
 
     run.begin()
@@ -137,7 +138,7 @@ def end_all() -> None:
 
 def version_of(name: str) -> str:
     """Name and version of the program, and a digest of its file. Raises OSError if it can't be started."""
-    path = program.path_of(name)
+    path = name if os.path.dirname(name) else program.path_of(name)
     return _version_of(path, stamp_of(os.stat(path)))
 
 

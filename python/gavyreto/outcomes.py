@@ -183,7 +183,7 @@ def begun(path: str, *olds: str) -> IO[bytes]:
     """A file that will take the place of others of its folder, which may be opened by nobody from whom one of them is kept."""
     folder = os.path.dirname(path)
     modes = (mode_of(os.path.join(folder, name)) or 0o666 for name in olds)
-    return open(path, "xb", opener=partial(os.open, mode=reduce(and_, modes, 0o666)))
+    return open(path, "xb", buffering=0, opener=partial(os.open, mode=reduce(and_, modes, 0o666)))
 
 
 def check_apart(*names: str) -> None:
