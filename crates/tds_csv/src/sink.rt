@@ -241,7 +241,8 @@ impl<'a, W: Write> Sink<'a, W> {
         self.deliver()
     }
 
-    /// Delivers what waits and flushes the writer.
+    /// Delivers what waits and flushes the writer. After a failed write what the writer didn't take waits;
+    /// after a failed flush nothing does.
     pub fn finish(&mut self) -> Result<(), Stop>
         requires { IsReady self.old }
         ensures { FinishesSink W.contents self.old self.new result }

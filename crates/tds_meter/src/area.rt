@@ -58,7 +58,8 @@ fn reach(store: &mut Vec<u8>, end: usize)
 }
 
 impl Area {
-    /// An empty area with this room, in bytes. It takes the memory of the whole room.
+    /// An empty area with this room, in bytes, 64 MiB at most. It takes the memory of the whole room;
+    /// [`OutOfMemory`] if that is refused.
     pub fn new(alloc: Global, room: usize) -> Result<Area, OutOfMemory>
         requires { room ≤ GREATEST_ROOM }
         ensures { IfOk result (λ area. area ≡ empty room) }

@@ -41,7 +41,7 @@ impl Areas {
     ghost use Rattle.tds_meter.specs.Rooms.{is_intact, held, peak_rest, AreEmptied};
     ghost use Rattle.tds_meter.specs.Space.{empty};
 
-    /// Six empty areas, which take all the memory of a run.
+    /// Six empty areas, which take all the memory of a run. [`OutOfMemory`] if some of it is refused.
     pub fn new(alloc: Global, limits: Limits) -> Result<Areas, OutOfMemory>
         ensures intact { IfOk result (λ areas. IsTrue (is_intact areas)) }
         ensures limits { IfOk result (λ areas. areas.limits ≡ limits) }

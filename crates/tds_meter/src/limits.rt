@@ -50,6 +50,9 @@ impl Limits {
 
     /// The limits with these numbers, all in bytes: the greatest packet, the longest encoded
     /// description of columns, and the greatest number of wire bytes, packet headers included.
+    ///
+    /// The fault names the first that is out of its range: `PacketSize` unless it is 512 to 32,767,
+    /// `ColumnRoom` unless it is 10 to 67,108,864, `MaxWire` unless it is 8 to 72,057,594,037,927,936.
     pub fn new(packet_size: u16, column_room: u32, max_wire: u64) -> Result<Limits, LimitFault>
         ensures { MatchResult result
             (λ limits. (limit_fault packet_size column_room max_wire ≡ None)

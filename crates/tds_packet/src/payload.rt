@@ -138,7 +138,8 @@ impl<'a, R: Read> Payload<'a, R> {
         Ok(())
     }
 
-    /// The next byte.
+    /// The next byte. Stops with `MessageEnded` if the message is over, and at a packet that has to be read
+    /// with `ReadFailed`, `InputEnded`, `WrongPacketType`, `BadPacketLength` or `ResponseTooLong`.
     pub fn next(&mut self) -> Result<u8, Stop>
         requires { IsSound self.old }
         ensures payload { AnswersAgain self.old self.new result }
@@ -281,7 +282,8 @@ impl<'a, R: Read> Payload<'a, R> {
         }
     }
 
-    /// Whether every byte was handed out, and the last packet is among those read.
+    /// Whether every byte was handed out, and the last packet is among those read. Stops as
+    /// [`next`](Payload::next) does at a packet that has to be read to tell, but not at the message's end.
     pub fn at_end(&mut self) -> Result<bool, Stop>
         requires { IsSound self.old }
         ensures payload { AnswersInPlace self.old self.new result }
@@ -305,7 +307,8 @@ impl<'a, R: Read> Payload<'a, R> {
         }
     }
 
-    /// Between 1 and `max` next bytes, in place in the packet area.
+    /// Between 1 and `max` next bytes, in place in the packet area; `max` is at least 1. Stops as
+    /// [`next`](Payload::next) does.
     pub fn piece(&mut self, max: usize) -> Result<&[u8], Stop>
         requires sound { IsSound self.old }
         requires some { 0 < max }
