@@ -4,8 +4,8 @@
 //! A [`RowFormat`] knows of each column of a description, or of the first 1,024, how its cells are written: its [`CellFormat`]. A
 //! run writes the text of cell after cell, from a place in a row, as far as their bytes are whole and there is room, and
 //! says how many bytes it used and made, and where it ended. Nothing is read or delivered here, and no fault is named: a
-//! cell that isn't whole or is refused, or has a chunk that ends within a character, is left to the caller; `write_one` says why
-//! ([`Left`]).
+//! cell that isn't whole or is refused is left to the caller, and so may be one that comes in several chunks or may want more
+//! room; `write_one` says why ([`Left`]).
 //!
 //! # The way in
 //!

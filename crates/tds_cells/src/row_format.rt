@@ -146,7 +146,7 @@ impl<'a> RowFormat<'a> {
         }
     }
 
-    /// The row format of a description's columns that knows none of them by itself, for one row.
+    /// The row format of a description's columns that looks each column up as it comes, for a single row.
     pub fn walked(columns: Columns<'a>, charset: Charset) -> RowFormat<'a>
         ensures knows { Knows result (columns_of columns.entry.bytes.now) }
         ensures charset { result.charset ≡ charset }

@@ -208,8 +208,8 @@ impl<'a> RowFormat<'a> {
         })
     }
 
-    // Writes whole rows of whole numbers of four bytes, as long as the token byte of another follows and there are bytes and room
-    // for any row. `COUNTED` says that all come after their lengths.
+    // Writes whole rows of whole numbers of four bytes, as long as there are bytes and room for any row and none is refused. Ends
+    // after the first that no ROW follows. `COUNTED` says that all come after their lengths.
     #[inline(never)]
     fn run_numbers<const COUNTED: bool>(&self, bytes: &[u8], to: &mut [u8]) -> KnownRun
         requires all { self.now.known ≡ self.now.count }

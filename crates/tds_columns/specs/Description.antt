@@ -125,8 +125,7 @@ described_size BeforeCount = 2
 described_size (InColumn bytes count columns place) = place_size place
 described_size d = 0
 
--- A description is too long if its bytes so far and those that must follow at least pass the room: these of this column, and 8 of each that is not
--- begun.
+-- the fault of a description of `so_far` bytes after which at least `least` must follow, in this room
 abbrev pub too_long : ℕ → ℕ → ℕ → Option Fault
 too_long room so_far least = if nat_lt room (so_far + least) then Some DescriptionTooLong else None
 

@@ -40,8 +40,8 @@ impl From<Stop> for JoinFault {
     }
 }
 
-/// A conversion of data that comes in pieces. It withholds the bytes whose text depends on what follows: none, and any
-/// data is whole, unless an `impl` gives words of its own.
+/// A conversion of data that comes in pieces. It withholds the bytes whose text depends on what follows. By default it
+/// withholds none and takes any data as whole.
 pub trait Joiner: Sized {
     /// How many bytes a unit of the data has.
     const UNIT: u64;

@@ -48,13 +48,15 @@
 //! `return_value.rt` the bodies that are judged here, `progress.rt` and `report.rt` what is counted.
 //!
 //! - The definitions come first. `specs/TokenGrammar` says how each token is read, element by element, and the
-//!   contract of `export` (`specs/Outcome`, `specs/Exports`) is stated only over it. Code that reads
-//!   otherwise isn't proved; a change of the grammar that no code follows isn't either.
+//!   contract of `export` (`specs/Outcome`, `specs/Exports`) is stated over it and over whole responses and their
+//!   text (`specs/Response`, `specs/Tokens`). Code that reads otherwise isn't proved; a change of the grammar that
+//!   no code follows isn't either.
 //! - Each method of the exporter is one step from a state of the grammar to another, for success and for each
 //!   stop (`specs/Steps`). A stop names the first fault of the element that is read, never a later one, and
 //!   leaves the text of what came before it.
 //! - An area is borrowed by itself, so that columns can be looked at in the description area while the payload
-//!   moves on. What stays from one read to the next is in an area: no method keeps bytes of its own.
+//!   moves on. What stays from one read to the next is in an area, but for the 3 bytes at most that a joiner
+//!   withholds: no method here keeps bytes of its own.
 //! - Rows are the hot path. What is in the packet goes to the output area once, by runs of cells in `tds_rows`;
 //!   nothing is done here for each cell, and nothing but a count for each row.
 #![tactic(auto)]

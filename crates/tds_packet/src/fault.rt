@@ -55,7 +55,7 @@ pub enum Fault {
     OddText { column: u16 },
     /// Chunks that pass their known total, or that end before it.
     PlpLength { column: u16 },
-    /// An ERROR or INFO whose lengths don't agree.
+    /// An ERROR or INFO whose Length is below 14, or whose inner lengths pass its body.
     BadNotice,
     /// A write or the flush failed: the writer's count of failures rose.
     WriteFailed,

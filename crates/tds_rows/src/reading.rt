@@ -41,7 +41,7 @@ pub(crate) fn earlier_stop<R: Read, W: Write>(payload: &Payload<R>, sink: &Sink<
 /// own. After a stop of the payload or the sink the same stop is returned, and nothing changes.
 ///
 /// A scalar cell that goes on in the next packet is gathered in the small area, which is emptied first and has
-/// room for 18 bytes at least; so is one that the row stops at.
+/// room for 18 bytes at least.
 pub fn row<R: Read, W: Write>(
     payload: &mut Payload<R>,
     columns: Columns<'_>,
@@ -230,8 +230,8 @@ pub fn nbc_row<R: Read, W: Write>(
 /// Reads an NBCROW after its token byte, and the NBCROWs after it as long as the next token byte is in the
 /// packet that the row before it ends in. Puts their lines, and returns how many they are. The lines of the
 /// whole rows count at a stop, and so does the text so far of the row that it stops in. A row's bitmap is read
-/// into the area, which is emptied before it, if the row isn't whole in the packet, is near the end of packet
-/// or block, or is the last. Faults, places and the areas' rooms are as in [`nbc_row`] (MS-TDS, NBCROW).
+/// into the area, which is emptied before it, unless the row is put whole, away from the ends of packet and
+/// block. Faults, places and the areas' rooms are as in [`nbc_row`] (MS-TDS, NBCROW).
 #[tactic(auto, using(crate::proofs::Successes::rows_succeed))]
 pub fn read_nbc_rows<R: Read, W: Write>(
     payload: &mut Payload<R>,

@@ -39,7 +39,7 @@ const SCRATCH: usize = 256;
 /// The room for the text of a cell that no run took.
 const CELL_SCRATCH: usize = 1024;
 
-/// The room in a block in which no run is begun, since its cells may want more: it goes on with a small text.
+/// With no more room than this left in the block, a run goes through a local array.
 const BLOCK_END: usize = 128;
 
 /// The reading of rows: the payload, the sink, the area in which a cell is gathered, and the row format of the columns.

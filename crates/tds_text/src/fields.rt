@@ -170,10 +170,8 @@ fn write_utf8(source: &[u8], n: usize, to: &mut [u8]) -> Option<usize>
 
 /// Writes the field of a whole value, the first `n` of these bytes, to the front of a slice: `0x` and
 /// digits, or the text in quotes. Returns how many bytes it has, or `None` if the data isn't whole: an odd
-/// number of bytes in UTF-16, or bytes that are no UTF-8; or if it may want more room. Text of ASCII is
-/// written with less, a byte for each character and 50 to spare, in UTF-16 from 16 characters on; so is
-/// other text, if any has room from some place on, in UTF-16 where most of the first eight units have a byte
-/// of text each.
+/// number of bytes in UTF-16, or bytes that are no UTF-8; or if it may want more room than there is
+/// ([`field_room`]).
 #[inline(always)]
 pub fn write_field(content: Content, source: &[u8], n: usize, to: &mut [u8]) -> Option<usize>
     requires within { n ≤ length source.now }

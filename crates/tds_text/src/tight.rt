@@ -125,7 +125,9 @@ fn write_utf8(source: &[u8], n: usize, to: &mut [u8]) -> Option<usize>
 }
 
 /// Writes the field of a whole value as [`write_field`](crate::write_field) does, for which there isn't the room that any text
-/// may want. `None` for data other than such text, and if that doesn't fit either.
+/// may want, or returns `None`. It tries text for which there is a byte for each of its bytes, or of its units in UTF-16, and 50
+/// to spare: that of ASCII without quotes, and other text if any has room from some place on. In UTF-16 it tries 16 units or
+/// more, of which at most two of the first eight have longer texts.
 #[inline(never)]
 pub(crate) fn write_tight(source: &[u8], n: usize, to: &mut [u8], content: Content) -> Option<usize>
     requires within { n ≤ length source.now }

@@ -58,7 +58,7 @@ pub enum Kind {
     DateTime2(u8),
     /// The same in UTC, and the minutes by which local time is ahead.
     DateTimeOffset(u8),
-    /// Bytes of any number.
+    /// Any number of bytes.
     Binary(Reach),
     /// Text of one byte or more a character, in the character set of the export.
     Narrow(Reach),
