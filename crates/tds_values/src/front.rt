@@ -106,16 +106,21 @@ pub fn write_front<const COPY: bool>(kind: &Kind, bytes: &[u8], to: &mut [u8]) -
             as_front(1 + value.len(), write_decimal(length, scale, value, to))
         }
         Kind::Date => as_front(4, write_date(counted(3, bytes)?, to)),
+        Kind::Time(0) => as_front(4, write_time(0, counted(3, bytes)?, to)),
+        Kind::Time(3) => as_front(5, write_time(3, counted(4, bytes)?, to)),
         Kind::Time(7) => as_front(6, write_time(7, counted(5, bytes)?, to)),
         Kind::Time(scale) => {
             let value = counted_any(bytes)?;
             as_front(1 + value.len(), write_time(scale, value, to))
         }
+        Kind::DateTime2(0) => as_front(7, write_date_time2(0, counted(6, bytes)?, to)),
+        Kind::DateTime2(3) => as_front(8, write_date_time2(3, counted(7, bytes)?, to)),
         Kind::DateTime2(7) => as_front(9, write_date_time2(7, counted(8, bytes)?, to)),
         Kind::DateTime2(scale) => {
             let value = counted_any(bytes)?;
             as_front(1 + value.len(), write_date_time2(scale, value, to))
         }
+        Kind::DateTimeOffset(0) => as_front(9, write_date_time_offset(0, counted(8, bytes)?, to)),
         Kind::DateTimeOffset(3) => as_front(10, write_date_time_offset(3, counted(9, bytes)?, to)),
         Kind::DateTimeOffset(7) => as_front(11, write_date_time_offset(7, counted(10, bytes)?, to)),
         Kind::DateTimeOffset(scale) => {

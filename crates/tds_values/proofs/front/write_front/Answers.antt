@@ -7,6 +7,11 @@ returns-in_ok-value-in-Decimal-clause-text g c =
     let x = c.write_decimal.ensures c.in-Decimal.precision in
     grind (arith, c.in-Decimal.is)
 
+pub returns-in_ok-counted-in-DateTimeOffset-eq0-clause-text : goal.returns-in_ok-counted-in-DateTimeOffset-eq0-clause-text
+returns-in_ok-counted-in-DateTimeOffset-eq0-clause-text g c =
+    let is = c.in-DateTimeOffset-eq0.is ∙ ap kinds.DateTimeOffset (sym c.in-DateTimeOffset-eq0.field-0-is ∙ c.in-DateTimeOffset-eq0.field-0-test) in
+    grind (arith, is)
+
 pub returns-in_ok-counted-in-DateTimeOffset-eq3-clause-text : goal.returns-in_ok-counted-in-DateTimeOffset-eq3-clause-text
 returns-in_ok-counted-in-DateTimeOffset-eq3-clause-text g c =
     let is = c.in-DateTimeOffset-eq3.is ∙ ap kinds.DateTimeOffset (sym c.in-DateTimeOffset-eq3.field-0-is ∙ c.in-DateTimeOffset-eq3.field-0-test) in
