@@ -1,7 +1,9 @@
 -- The tables of digits.
 use Rattle.tds_values.proofs.Words.{◌≡◌, ℕ, zero, suc, ◌+◌, ◌*◌, ◌/◌, ◌%◌, ◌^◌, ◌<◌, ◌==◌, true, refl, ap, ◌∙◌, arith, List, [], ◌++◌, length, take, drop}
-use Rattle.tds_values.proofs.Words.{codes, get_or, agree_below, agree_below_at, eqb-true, hex_digit, lower, lower_digits, slice_index, add-zero, take_all}
-use Rattle.tds_values.proofs.Words.{take-append-le, last_digits, DAYS, FOUR_DIGITS, MINUTES}
+use Rattle.tds_values.proofs.Words.{codes, decimal, get_or, agree_below, agree_below_at, eqb-true, hex_digit, lower, lower_digits, slice_index, add-zero, take_all}
+use Rattle.tds_values.proofs.Words.{length-append, nat_lt, ◌≤◌, ◌∷◌, if◌then◌else◌}
+use Rattle.tds_values.proofs.Words.{take-append-le, take-append-add, take-take, length-take-le, last_digits, DAYS, FOUR_DIGITS, MINUTES, SMALL_NUMBERS}
+use Rattle.tds_values.proofs.DigitLemmas.{decimal_last}
 use Rattle.tds_values.proofs.TextLengths.{length-last_digits}
 use Rattle.tds_values.specs.ScalarText.{march_text, minutes_text}
 use Rattle.tds_values.specs.declared.numbers.TheConstants.{POWERS}
@@ -37,6 +39,35 @@ four_digits = refl
 
 pub four_at : (n k : ℕ) → n < 10000 → k ≡ 4 → take k (drop (4 * n) FOUR_DIGITS) ≡ last_digits 4 n
 four_at n k h e = rw (e, four_digits) (rw add-zero at (text_at (last_digits 4) 4 (length-last_digits 4) n 10000 0 h))
+
+-- how many digits a small number has, and these in three bytes before that number
+abbrev small_size : ℕ → ℕ
+small_size n = if nat_lt n 10 then 1 else (if nat_lt n 100 then 2 else 3)
+
+abbrev small_text : ℕ → List ℕ
+small_text n = take 3 (last_digits (small_size n) n ++ codes "..") ++ small_size n ∷ []
+
+small_length : (n : ℕ) → length (small_text n) ≡ 4
+small_length n = grind (arith, length-append, length-last_digits, length-take-le 3 (last_digits (small_size n) n ++ codes ".."))
+
+small_numbers : SMALL_NUMBERS ≡ joined_from small_text 256 0
+unfolding joined_from
+small_numbers = refl
+
+small_at : (n : ℕ) → n < 256 → take 4 (drop (4 * n) SMALL_NUMBERS) ≡ small_text n
+small_at n small = rw small_numbers (rw add-zero at (text_at small_text 4 small_length n 256 0 small))
+
+small_decimal : (n : ℕ) → n < 256 → decimal n ≡ last_digits (small_size n) n
+small_decimal n small = grind (arith, decimal_last 0 n, decimal_last 1 n, decimal_last 2 n)
+
+pub small_put : (n at k m : ℕ) (old new text : List ℕ) → n < 256 → m ≡ 4 → text ≡ take m (drop (4 * n) SMALL_NUMBERS) → k ≡ get_or text 3 0 → at ≤ length old
+    → take (at + 4) new ≡ take at old ++ text → (k ≤ 3) × (take (at + k) new ≡ take at old ++ decimal n)
+small_put n at k m old new text small four is count within written =
+    let whole : text ≡ small_text n = rw four at is ∙ small_at n small in
+    let counted : k ≡ small_size n = grind (arith, length-take-le 3 (last_digits (small_size n) n ++ codes ".."), length-append, length-last_digits) in
+    let front : take k text ≡ decimal n = grind (arith, small_decimal, take-append-le, take-take, take_all, length-last_digits) in
+    let few : k ≤ 3 = grind arith in
+    (few, cc (take-take (at + k) (at + 4) new (omega arith), take-append-add (take at old) text k, length-take-le at old within, written, front))
 
 -- and the text of a minute
 minutes : MINUTES ≡ joined_from (λ m. minutes_text m ++ codes ":" ++ last_digits 2 0) 1440 0

@@ -36,7 +36,7 @@ pub use Rattle.tds_values.specs.ScalarText.{FitsWidths, date_and_time, fraction_
 pub use Rattle.tds_values.specs.TimeOfDay.{is_time}
 pub use Rattle.tds_values.specs.TypeInfo.{IsTypeInfo, kind_of}
 pub use Rattle.tds_values.specs.Written.{IsText, IsWritten}
-pub use Rattle.tds_values.specs.declared.tables.TheConstants.{DAYS, FOUR_DIGITS, MINUTES}
+pub use Rattle.tds_values.specs.declared.tables.TheConstants.{DAYS, FOUR_DIGITS, MINUTES, SMALL_NUMBERS}
 pub use Rattle.tds_values.specs.declared.kind.Kind.{Kind}
 pub use Rattle.tds_values.specs.declared.kind.Reach.TheVariants.{Chunked, Short}
 pub use Rattle.tds_values.specs.declared.scalar.ScalarValue.{ScalarValue}

@@ -3,7 +3,7 @@ ghost use Rattle.std.specs.Prelude.{◌≡◌, ◌+◌, ◌-◌, ◌<◌, ◌≤
 ghost use Rattle.tds_values.specs.ScalarText.{last_digits, minus_if};
 ghost use Rattle.byteorder.specs.Endian.{little_number};
 
-use crate::tables::FOUR_DIGITS;
+use crate::tables::{FOUR_DIGITS, SMALL_NUMBERS};
 use byteorder::{ByteOrder, LittleEndian};
 
 /// Writes a byte at a place, and returns the place after it.
@@ -135,6 +135,19 @@ pub(crate) fn leading_zeros(n: u32) -> usize
 {
     let values = word(n) - 0x2030_3030_3030_3030;
     values.trailing_zeros() as usize / 8
+}
+
+// A number below 256.
+#[inline(always)]
+pub(crate) fn put_small(to: &mut [u8], at: usize, n: u8) -> usize
+    requires room { at + 4 ≤ length to.old }
+    ensures end { result ≤ at + 3 }
+    ensures written { take result to.new ≡ take at to.old ++ decimal n }
+{
+    let from = 4 * n as usize;
+    let text = &SMALL_NUMBERS[from..from + 4];
+    put_piece::<4>(to, at, text);
+    at + text[3] as usize
 }
 
 // A number of at most four digits.

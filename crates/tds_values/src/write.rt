@@ -10,7 +10,7 @@ ghost use Rattle.tds_values.specs.Written.{IsTextOf, IsWritten};
 ghost use Rattle.tds_values.specs.declared.scalar.ScalarValue.{ScalarValue};
 ghost use Rattle.tds_values.specs.declared.scalar.ValueFault.{ValueFault};
 
-use crate::digits::put_4;
+use crate::digits::put_small;
 use crate::guid::put_guid;
 use crate::kind::{Kind, is_decimal_length, time_length};
 use crate::moments::{put_date, put_moment, put_time};
@@ -47,7 +47,7 @@ pub(crate) fn write_integer(n: u8, bytes: &[u8], to: &mut [u8]) -> Result<usize,
 {
     check_length(n as usize, bytes)?;
     if n == 1 {
-        return Ok(put_4(to, 0, u32::from(bytes[0])));
+        return Ok(put_small(to, 0, bytes[0]));
     }
     Ok(put_integer(to, 0, integer_of(n, bytes)))
 }
