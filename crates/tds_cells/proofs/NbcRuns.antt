@@ -55,12 +55,24 @@ module _ (used size : ℕ) (bytes : List ℕ) where
 
   -- the row after them isn't written so
   pub nbc_rows_end : (row_format : N.RowFormat) (start at : N.Cursor) (made : ℕ) (to text : List ℕ) (u m : ℕ) → size ≡ N.bitmap_length row_format.count
-      → start.column ≡ 0 → m ≤ length text → N.CellsWritten row_format (N.bit bitmap) start at (N.take u cells) (N.take m text)
+      → start.column ≡ 0 → ((columns : List N.Column) → N.Knows row_format columns → N.IsCursor row_format columns start) → m ≤ length text
+      → N.CellsWritten row_format (N.bit bitmap) start at (N.take u cells) (N.take m text)
       → N.EndsFar row_format (N.bit bitmap) at (drop u cells) (length (unused made to) - m)
       → (at.column ≡ row_format.count → ⊥) → N.EndsNbcRows row_format (N.bitmap_length row_format.count) N.false (drop used bytes) (length to - made)
-  nbc_rows_end row_format start at made to text u m size_is first fits wrote far end =
+  nbc_rows_end row_format start at made to text u m size_is first begins fits wrote far end =
       let all = N.all_after bytes used in
       let rest = N.all_after (drop used bytes) size in
       let room = ap length (N.all_after to made) ∙ N.length-drop made to in
       let size = N.sym (N.length-take-le m text fits) in
-      N.inr (start, at, u, N.take m text, first, rw (all, rest, size_is) at wrote, rw size at (rw (all, rest, room, size_is) at far), end)
+      N.inr
+      record {
+        from = start;
+        to = at;
+        used = u;
+        text = N.take m text;
+        first = first;
+        begins = begins;
+        writes = rw (all, rest, size_is) at wrote;
+        far = rw size at (rw (all, rest, room, size_is) at far);
+        early = end;
+      }

@@ -5,8 +5,8 @@ use Rattle.tds_columns.specs.Description.{Column}
 use Rattle.tds_cells.specs.declared.row_format.Cursor.{Cursor}
 use Rattle.tds_cells.specs.declared.row_format.RowFormat.{RowFormat}
 use Rattle.tds_cells.specs.MarkedRuns.{CellsWritten, EndsFar, WritesMarked}
-use Rattle.tds_cells.specs.Rows.{NbcRow, bit, bitmap_length, token_byte}
-use Rattle.tds_cells.specs.Rows.{BeginNoRow}
+use Rattle.tds_cells.specs.RowFormats.{IsCursor, Knows}
+use Rattle.tds_cells.specs.Rows.{BeginNoRow, NbcRow, bit, bitmap_length, token_byte}
 
 -- The bytes are the bitmap and the cells of an NBCROW, and this is its line.
 pub record WritesNbcRow (charset : Charset) (columns : List Column) (bytes text : List ℕ) : Type 0 where
@@ -29,10 +29,19 @@ WritesWholeRows charset columns n false bytes text = WritesNbcRows charset colum
 WritesWholeRows charset columns n true bytes text = (front : List ℕ) × (row : List ℕ) × (before : List ℕ) × (line : List ℕ)
     × (bytes ≡ front ++ row) × (text ≡ before ++ line) × WritesNbcRows charset columns n front before × WritesNbcRow charset columns row line
 
--- No NBCROW follows the last one; or the next one can't be written so: its bitmap isn't whole, or the run over its cells ends before the row does.
+-- The next NBCROW isn't written so, with this much room: the run over its cells, from the row's start on, ends before the row does.
+pub record LeavesNbcRow (row_format : RowFormat) (bitmap cells : List ℕ) (room : ℕ) : Type 0 where
+  pub from : Cursor
+  pub to : Cursor
+  pub used : ℕ
+  pub text : List ℕ
+  pub first : from.column ≡ 0
+  pub begins : (columns : List Column) → Knows row_format columns → IsCursor row_format columns from
+  pub writes : CellsWritten row_format (bit bitmap) from to (take used cells) text
+  pub far : EndsFar row_format (bit bitmap) to (drop used cells) (room - length text)
+  pub early : to.column ≡ row_format.count → ⊥
+
+-- No NBCROW follows the last one; or the bitmap of the next one isn't whole, or it isn't written so.
 abbrev pub EndsNbcRows : RowFormat → ℕ → Bool → List ℕ → ℕ → Type 0
 EndsNbcRows row_format size true bytes room = BeginNoRow NbcRow bytes
-EndsNbcRows row_format size false bytes room = (length bytes < size) ⊎ ((from : Cursor) × (to : Cursor) × (used : ℕ) × (text : List ℕ) × (from.column ≡ 0)
-    × CellsWritten row_format (bit (take size bytes)) from to (take used (drop size bytes)) text
-    × EndsFar row_format (bit (take size bytes)) to (drop used (drop size bytes)) (room - length text)
-    × (to.column ≡ row_format.count → ⊥))
+EndsNbcRows row_format size false bytes room = (length bytes < size) ⊎ LeavesNbcRow row_format (take size bytes) (drop size bytes) room

@@ -27,7 +27,7 @@ returns-then-not-is_end-clause-ends c =
     let run = c.run_far_marked-run in
     rw l.invariant.room at (N.NbcRuns.nbc_rows_end l.whole.used c.bitmap_size-size.result c.args.bytes.now c.args.self.now c.start-at.result run.new.at
     l.whole.made l.to run.new.to run.result.used run.result.made (grind arith)
-    c.start-at.ensures.first (search arith) run.ensures.cells run.ensures.ends (λ is. search arith))
+    c.start-at.ensures.first c.start-at.ensures.ahead (search arith) run.ensures.cells run.ensures.ends (λ is. search arith))
 
 pub returns-then-is_empty-clause-rows : goal.returns-then-is_empty-clause-rows
 returns-then-is_empty-clause-rows c = λ columns knows.
