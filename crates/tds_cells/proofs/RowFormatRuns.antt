@@ -181,7 +181,7 @@ module _ (row_format : RowFormat) (from : Cursor) (end : ℕ) (formats : List Ce
   pub first_left : {bytes : List ℕ} {room : ℕ} → N.FirstLeft row_format.charset formats bytes room
       → (columns : List Column) (column : Column) (left : List Column) → Knows row_format columns → IsCursor row_format columns from
       → drop from.column columns ≡ column ∷ left
-      → (room < N.CELL_ROOM) ⊎ ((false ≡ false) × N.IsLeft row_format.charset column.kind bytes room)
+      → (room < 66) ⊎ ((false ≡ false) × N.IsLeft row_format.charset column.kind bytes room)
   first_left x columns column _ knows is step =
       let first = some_first _ ahead.some in
       let y = x first.0 first.1 first.2 in
@@ -190,7 +190,7 @@ module _ (row_format : RowFormat) (from : Cursor) (end : ℕ) (formats : List Ce
   -- the cell after so many is left as the first of the others is
   pub next_left : {bytes : List ℕ} {room : ℕ} (k : ℕ) → N.FirstLeft row_format.charset (drop k formats) bytes room → k < length formats
       → (columns : List Column) (column : Column) (left : List Column) → Knows row_format columns → IsCursor row_format columns from
-      → drop (from.column + k) columns ≡ column ∷ left → (room < N.CELL_ROOM) ⊎ N.IsLeft row_format.charset column.kind bytes room
+      → drop (from.column + k) columns ≡ column ∷ left → (room < 66) ⊎ N.IsLeft row_format.charset column.kind bytes room
   next_left k x some columns column left knows is step =
       let (format, rest, are) = some_first (drop k formats) (omega (arith, some, N.length-drop k formats)) in
       let next = drop from.column columns in

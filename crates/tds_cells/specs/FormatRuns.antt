@@ -5,7 +5,6 @@ use Rattle.tds_columns.specs.Description.{Column}
 use Rattle.tds_text.specs.Quoting.{after_comma}
 use Rattle.tds_values.specs.declared.charset.Charset.{Charset}
 use Rattle.tds_cells.specs.declared.layout.CellFormat.{CellFormat}
-use Rattle.tds_cells.specs.declared.whole.TheConstants.{CELL_ROOM}
 use Rattle.tds_cells.specs.declared.run.formats.FormatsRun.{FormatsRun}
 use Rattle.tds_values.specs.declared.span.Span.{Span}
 use Rattle.tds_cells.specs.CellTexts.{IsLeft, IsScalarLeft, WritesField, is_counted, is_int4}
@@ -24,7 +23,7 @@ pub record IsWithin (run : FormatsRun) (most bytes room : ℕ) : Type 0 where
 -- The first cell is left, with this much room; or there isn't room for every scalar.
 abbrev pub FirstLeft : Charset → List CellFormat → List ℕ → ℕ → Type 0
 FirstLeft charset formats bytes room = (format : CellFormat) (rest : List CellFormat) → formats ≡ format ∷ rest
-    → (room < CELL_ROOM) ⊎ IsLeft charset format.kind bytes room
+    → (room < 66) ⊎ IsLeft charset format.kind bytes room
 
 -- The bytes are the cells of this number of formats, and these are their fields after one another, each after its comma.
 abbrev pub WritesFormats : Charset → List CellFormat → ℕ → ℕ → List ℕ → List ℕ → Type 0

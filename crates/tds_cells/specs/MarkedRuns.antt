@@ -3,7 +3,6 @@ use Rattle.std.specs.Prelude.{◌≡◌, ◌⊎◌, ◌+◌, ◌*◌, ◌<◌, �
 use Rattle.tds_columns.specs.Description.{Column}
 use Rattle.tds_text.specs.Quoting.{in_line, null_field}
 use Rattle.tds_values.specs.declared.charset.Charset.{Charset}
-use Rattle.tds_cells.specs.declared.whole.TheConstants.{CELL_ROOM, LOOKAHEAD}
 use Rattle.tds_cells.specs.declared.nulls.Nulls.{Nulls}
 use Rattle.tds_cells.specs.declared.nulls.Nulls.TheVariants.{Unmarked, Marked}
 use Rattle.tds_cells.specs.declared.row_format.Cursor.{Cursor}
@@ -58,11 +57,11 @@ abbrev pub EndsLeft : RowFormat → (ℕ → Bool) → Cursor → List ℕ → �
 EndsLeft row_format nulls at bytes room = (columns : List Column) (column : Column) (left : List Column) → Knows row_format columns
     → IsCursor row_format columns at
     → drop at.column columns ≡ column ∷ left →
-    (room < CELL_ROOM) ⊎ ((nulls at.column ≡ false) × IsLeft row_format.charset column.kind bytes room)
+    (room < 66) ⊎ ((nulls at.column ≡ false) × IsLeft row_format.charset column.kind bytes room)
 
 -- A run ended there, or where bytes or room are too few for any scalar.
 abbrev pub EndsFar : RowFormat → (ℕ → Bool) → Cursor → List ℕ → ℕ → Type 0
-EndsFar row_format nulls at bytes room = (length bytes < LOOKAHEAD) ⊎ ((room < CELL_ROOM) ⊎ EndsLeft row_format nulls at bytes room)
+EndsFar row_format nulls at bytes room = (length bytes < 19) ⊎ ((room < 66) ⊎ EndsLeft row_format nulls at bytes room)
 
 -- These bytes were used and this text was written: those of the cells between two places of a row, whatever the columns that its row format knows.
 abbrev pub CellsWritten : RowFormat → (ℕ → Bool) → Cursor → Cursor → List ℕ → List ℕ → Type 0

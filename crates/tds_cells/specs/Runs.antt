@@ -14,7 +14,6 @@ use Rattle.tds_cells.specs.declared.run.RowsSpan.{RowsSpan}
 use Rattle.tds_cells.specs.declared.run.KnownRun.{KnownRun}
 use Rattle.tds_cells.specs.declared.nulls.Nulls.{Nulls}
 use Rattle.tds_cells.specs.declared.nulls.Nulls.TheVariants.{Unmarked, Marked}
-use Rattle.tds_cells.specs.declared.whole.TheConstants.{CELL_ROOM}
 use Rattle.tds_cells.specs.declared.row_format.Cursor.{Cursor}
 use Rattle.tds_cells.specs.declared.row_format.RowFormat.{RowFormat}
 use Rattle.tds_cells.specs.Cells.{Cell, field}
@@ -99,7 +98,7 @@ pub record StaysWithin (from to : Cursor) (end bytes room : ℕ) (run : Span) : 
 abbrev pub LeavesNext : RowFormat → Cursor → Cursor → ℕ → List ℕ → ℕ → Type 0
 LeavesNext row_format from to until bytes room = (columns : List Column) (column : Column) (left : List Column) → Knows row_format columns
     → IsCursor row_format columns from → to.column < until → drop to.column columns ≡ column ∷ left →
-    (room < CELL_ROOM) ⊎ IsLeft row_format.charset column.kind bytes room
+    (room < 66) ⊎ IsLeft row_format.charset column.kind bytes room
 
 -- The cell of this kind at the front of these bytes was written, and its text in its line; or it is left, with this much room.
 abbrev pub AloneWritten : Charset → Kind → ℕ → Bool → List ℕ → ℕ → List ℕ → Option Span → Type 0
