@@ -257,10 +257,11 @@ impl<'r, 't, 'p, 's, 'c, R: Read, W: Write> Rows<'r, 't, 'p, 's, 'c, R, W> {
         let mut at = self.row_format.start();
         let mut begun: u64 = 0;
         loop {
-            let place = self.payload.place();
+            let (place, room) = (self.payload.place(), self.sink.room());
             begun += self.put_run(&mut at, nulls)?;
-            // A run of ROWs that came to the block's end goes over it.
-            if M::TOKEN == ROW && self.payload.place() > place && self.sink.room() <= BLOCK_END {
+            // A run of ROWs that came to the block's end goes over it, and one that went over it goes on.
+            let is_further = self.payload.place() > place;
+            if M::TOKEN == ROW && is_further && room.min(self.sink.room()) <= BLOCK_END {
                 continue;
             }
             let Some((format, after)) = self.row_format.next(at) else {

@@ -34,8 +34,8 @@ returns-in_err-begun-clause-rows g c = λ columns knows.
     rw (err_is _ _ c.from_residual-in_err-begun.ensures.1, token_is g.M.Marks.token c.nulls-nulls.result _ c.nulls-nulls.ensures)
     (run_fails _ c.loop-begun.invariant.reads c.in_err-begun.ensures knows)
 
-pub loop-begun-preserved-then-room-le-BLOCK_END : goal.loop-begun-preserved-then-room-le-BLOCK_END
-loop-begun-preserved-then-room-le-BLOCK_END g c =
+pub loop-begun-preserved-then-min-le-BLOCK_END : goal.loop-begun-preserved-then-min-le-BLOCK_END
+loop-begun-preserved-then-min-le-BLOCK_END g c =
     let l = c.loop-begun.invariant in
     let run = c.in_ok-begun.ensures in
     let same = N.sym run.leaves.same.3 in
