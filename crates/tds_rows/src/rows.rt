@@ -22,7 +22,7 @@ ghost use Rattle.tds_cells.specs.RowFormats.{BeginsRow, Knows, KnowsSome};
 ghost use Rattle.tds_values.specs.Kind as kinds;
 
 use crate::cell::gathered::{gather_scalar, refusal};
-use crate::cell::lengths::cut_content;
+use crate::cell::lengths::joined_content;
 use crate::cell::streamed::stream_long;
 use crate::nbc::Marks;
 use std::io::{Read, Write};
@@ -141,7 +141,7 @@ impl<'r, 't, 'p, 's, 'c, R: Read, W: Write> Rows<'r, 't, 'p, 's, 'c, R, W> {
         ensures { CellRead R.remaining W.contents at.entry format.now.kind self.old self.new result }
     {
         let bytes = self.payload.buffered();
-        if let Some(content) = cut_content(format, bytes) {
+        if let Some(content) = joined_content(format, bytes) {
             let last = self.row_format.is_last(at);
             return self.put_joined(content, Reach::Short, at.column, last);
         }

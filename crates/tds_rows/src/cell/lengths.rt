@@ -1,5 +1,5 @@
 // The lengths and totals of long values (MS-TDS, Partially Length-prefixed Bytes).
-ghost use Rattle.std.specs.Prelude.{◌≡◌, ◌==◌, ◌||◌, ◌%◌, ◌+◌, ◌-◌, ◌^◌, ◌≤◌, ◌<◌, length, None, Some, IfSome, MatchResult, if◌then◌else◌, nat_le};
+ghost use Rattle.std.specs.Prelude.{◌≡◌, ◌⊎◌, ◌==◌, ◌||◌, ◌%◌, ◌+◌, ◌-◌, ◌^◌, ◌≤◌, ◌<◌, length, None, Some, IfSome, MatchResult, if◌then◌else◌, nat_le};
 ghost use Rattle.byteorder.specs.Endian.{little_number};
 ghost use Rattle.tds_cells.specs.declared.layout.Layout.TheVariants.{Short};
 ghost use Rattle.tds_packet.specs.Payloads.{IsGoing, LeavesPayload, seen};
@@ -12,6 +12,19 @@ use std::io::Read;
 use tds_cells::{CellFormat, Layout, NULL_LENGTH, NULL_TOTAL, UNKNOWN_TOTAL};
 use tds_packet::{Fault, Payload, Stop};
 use tds_text::Content;
+
+// How many bytes the text of a short value has at most that may go to the sink at once.
+const LONGEST_AT_ONCE: usize = 974;
+
+// How many bytes the text of `n` bytes of data has at least, without its quotes.
+fn least_text(content: Content, n: usize) -> usize
+    ensures { result ≤ n }
+{
+    match content {
+        Content::Utf16 => n / 2,
+        Content::Binary | Content::Windows1252 | Content::Utf8 => n,
+    }
+}
 
 // Reads a number of `size` bytes, the lowest first.
 #[inline(always)]
@@ -30,10 +43,12 @@ fn read_number<R: Read>(payload: &mut Payload<R>, size: usize) -> Result<u64, St
     Ok(LittleEndian::read_uint(&bytes[..size], size))
 }
 
-/// What a short value holds that isn't NULL, and whose cell isn't whole in these bytes. `None` for any other cell.
-pub(crate) fn cut_content(format: &CellFormat, bytes: &[u8]) -> Option<Content>
+/// What a short value holds that isn't NULL, and goes by a joiner at once: one whose cell isn't whole in these bytes, or whose text
+/// is long. `None` for any other cell.
+pub(crate) fn joined_content(format: &CellFormat, bytes: &[u8]) -> Option<Content>
     ensures short { IfSome result (λ content. format.now.layout ≡ Short content) }
-    ensures cut { IfSome result (λ _. 2 ≤ length bytes.now → length bytes.now < 2 + little_number 2 bytes.now) }
+    ensures joined { IfSome result (λ _. 2 ≤ length bytes.now → let n = little_number 2 bytes.now in
+        (length bytes.now < 2 + n) ⊎ (974 < n)) }
 {
     let Layout::Short(content) = format.layout else {
         return None;
@@ -41,11 +56,14 @@ pub(crate) fn cut_content(format: &CellFormat, bytes: &[u8]) -> Option<Content>
     if bytes.len() < 2 {
         return Some(content);
     }
-    let n = LittleEndian::read_u16(bytes);
-    if u64::from(n) == NULL_LENGTH || bytes.len() >= 2 + n as usize {
+    let n = LittleEndian::read_u16(bytes) as usize;
+    if n == NULL_LENGTH as usize {
         return None;
     }
-    Some(content)
+    if bytes.len() < 2 + n || least_text(content, n) > LONGEST_AT_ONCE {
+        return Some(content);
+    }
+    None
 }
 
 /// Reads the length of a short value, whose data has units of `unit` bytes. `None` if it is NULL.
