@@ -211,7 +211,7 @@ pub(crate) fn write_cell<const COPY: bool>(
     let (start, n) = match format.layout {
         Layout::Fixed(n) => (0, n as usize),
         Layout::Counted => (1, bytes[0] as usize),
-        _ => return Err(Left::Cut),
+        _ => unreachable!(),
     };
     let used = start + n;
     if bytes.len() < used {

@@ -251,7 +251,7 @@ fn value_of(kind: &Kind, bytes: &[u8]) -> ScalarValue
                 offset: LittleEndian::read_i16(&bytes[t + 3..]),
             }
         }
-        Kind::Binary(_) | Kind::Narrow(_) | Kind::Wide(_) => ScalarValue::Bit(false),
+        Kind::Binary(_) | Kind::Narrow(_) | Kind::Wide(_) => unreachable!(),
     }
 }
 
@@ -262,7 +262,7 @@ fn guid_of(bytes: &[u8]) -> ScalarValue
 {
     match Uuid::from_slice_le(bytes) {
         Ok(id) => ScalarValue::Guid(id),
-        Err(_) => ScalarValue::Guid(Uuid::nil()),
+        Err(_) => unreachable!(),
     }
 }
 
