@@ -1,5 +1,5 @@
 -- The type of the value that a procedure returns (MS-TDS, RETURNVALUE): eight bytes that end with the type byte, and what follows it.
-use Rattle.std.specs.Prelude.{◌≡◌, ◌==◌, ℕ, ◌+◌, ◌≤◌, List, [], ◌∷◌, length, max, Option, Some, None, Result, OnErr, if◌then◌else◌, slice_index}
+use Rattle.std.specs.Prelude.{◌≡◌, ◌==◌, ℕ, ◌+◌, ◌≤◌, List, [], ◌∷◌, length, max, Option, Some, None, Result, OnErr, OnOk, if◌then◌else◌, slice_index, take}
 use Rattle.std.specs.Prelude.{unwrap_or, is_some}
 use Rattle.tds_values.specs.declared.kind.Kind.{Kind}
 use Rattle.tds_values.specs.TypeInfo.{IsTypeInfo, rest_length, kind_of}
@@ -76,6 +76,7 @@ pub record LeavesHead {U : Type 0} (before after : Space) (result : Result U Sto
   pub room : after.room ≡ before.room
   pub bound : after.peak ≤ max before.peak 15
   pub kept : OnErr result (after.bytes ≡ before.bytes)
+  pub grown : OnOk result (take (length before.bytes) after.bytes ≡ before.bytes)
 
 -- What follows a type byte was read: together they describe the kind.
 pub record ReadsType (byte : ℕ) (old new : PayloadView) (place place' : ℕ) (kind : Kind) : Type 0 where

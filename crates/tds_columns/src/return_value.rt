@@ -23,7 +23,7 @@ pub const TYPE_ROOM: usize = 15;
 
 /// Reads what follows the type byte of a RETURNVALUE, and returns its kind. The area holds the eight
 /// bytes that end with the type byte, just read from the payload, and has room for seven more; what
-/// is read is after them then.
+/// is read comes after them.
 ///
 /// Stops with `RefusedColumn` and `UnknownType` at the place of the eight bytes, with `BadTypeInfo`
 /// at that of the bytes after them, and with the faults of the payload, `MessageEnded` among them.
