@@ -87,7 +87,7 @@ pub struct Cursor<'a> {
 impl<'a> RowFormat<'a> {
     ghost use Rattle.tds_columns.specs.Description as spec;
     ghost use Rattle.tds_columns.specs.View.{columns_of};
-    ghost use Rattle.tds_cells.specs.RowFormats.{AreAtCursor, BeginsRow, IsCursor, Knows, Learns, NextColumn, place};
+    ghost use Rattle.tds_cells.specs.RowFormats.{AreAtCursor, IsCursor, Knows, Learns, NextColumn, place};
     ghost use Rattle.tds_columns.specs.declared.walk.Walk.{Walk};
 
     /// Learns what the cells of a description's first columns need, as many as there is room for, if single-byte text is in this set.
@@ -320,25 +320,6 @@ impl<'a> RowFormat<'a> {
             IsCursor self.now columns at.new }
     {
         at.column += cells as u16;
-    }
-
-    /// Whether these bytes begin with the token byte of a ROW.
-    #[inline(always)]
-    pub(crate) fn begins_row(&self, bytes: &[u8]) -> bool
-        requires some { 0 < length bytes.now }
-        ensures begins { result ≡ true → BeginsRow bytes.now }
-        ensures other { result ≡ false → BeginsRow bytes.now → ⊥ }
-    {
-        bytes[0] == ROW
-    }
-
-    /// Whether the token byte of another ROW comes next.
-    #[inline(always)]
-    pub(crate) fn row_follows(&self, rest: &[u8]) -> bool
-        ensures begins { result ≡ true → BeginsRow rest.now }
-        ensures other { result ≡ false → BeginsRow rest.now → ⊥ }
-    {
-        !rest.is_empty() && self.begins_row(rest)
     }
 
     /// What the next cell needs, and the place after it. `None` at the row's end.

@@ -13,7 +13,7 @@ ghost use Rattle.tds_columns.specs.declared.walk.Walk.{Walk};
 ghost use Rattle.tds_text.specs.Quoting.{after_comma};
 
 use crate::layout::CellFormat;
-use crate::row_format::{Cursor, RowFormat};
+use crate::row_format::{Cursor, ROW, RowFormat};
 use crate::run::formats::{latest_row, run_formats, run_row};
 use crate::whole::{CELL_ROOM, LOOKAHEAD, Left, VALUE_ROOM, write_cell, write_far_cell};
 use tds_text::{COMMA, write_comma, write_line_end};
@@ -105,6 +105,25 @@ fn no_span() -> Span
     ensures { result ≡ record { used = 0; made = 0 } }
 {
     Span { used: 0, made: 0 }
+}
+
+// Whether these bytes begin with the token byte of a ROW.
+#[inline(always)]
+fn begins_row(bytes: &[u8]) -> bool
+    requires some { 0 < length bytes.now }
+    ensures begins { result ≡ true → BeginsRow bytes.now }
+    ensures other { result ≡ false → BeginsRow bytes.now → ⊥ }
+{
+    bytes[0] == ROW
+}
+
+// Whether the token byte of another ROW comes next.
+#[inline(always)]
+fn row_follows(rest: &[u8]) -> bool
+    ensures begins { result ≡ true → BeginsRow rest.now }
+    ensures other { result ≡ false → BeginsRow rest.now → ⊥ }
+{
+    !rest.is_empty() && begins_row(rest)
 }
 
 impl<'a> RowFormat<'a> {
@@ -231,7 +250,7 @@ impl<'a> RowFormat<'a> {
             let Some(run) = run_row::<COUNTED>(row, Span { used, made }, bytes, to) else {
                 break;
             };
-            if !self.begins_row(&bytes[run.used..]) {
+            if !begins_row(&bytes[run.used..]) {
                 return KnownRun::ended(run.used, run.made, rows, row.len());
             }
             used = run.used + 1;
@@ -279,7 +298,7 @@ impl<'a> RowFormat<'a> {
                 continue;
             }
             made = write_line_end(true, made - 1, to);
-            if !self.row_follows(rest) {
+            if !row_follows(rest) {
                 return KnownRun::ended(bytes.len() - rest.len(), made, rows, cells);
             }
             cells = 0;
@@ -338,7 +357,7 @@ impl<'a> RowFormat<'a> {
             rows += fast.rows;
             column = fast.column;
             let Some(formats) = (&*self).rest_of_row(column) else {
-                if !self.row_follows(&bytes[used..]) {
+                if !row_follows(&bytes[used..]) {
                     break;
                 }
                 used += 1;
@@ -375,7 +394,7 @@ impl<'a> RowFormat<'a> {
         let mut run = RowsSpan::none();
         loop {
             if self.is_end(*at) {
-                if !self.row_follows(&bytes[run.used..]) {
+                if !row_follows(&bytes[run.used..]) {
                     break;
                 }
                 run.used += 1;

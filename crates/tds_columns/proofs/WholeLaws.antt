@@ -2,7 +2,7 @@
 use Rattle.tds_columns.proofs as N
 use N.{◌≡◌, ◌∙◌, ℕ, ◌+◌, ◌-◌, ◌*◌, ◌<◌, ◌≤◌, List, [], ◌∷◌, ◌++◌, length, take, drop, arith, refl}
 use N.ColumnMeaning.{one_more_column}
-use N.ViewLaws.{all_after, from_type}
+use N.ViewLaws.{all_after}
 use Rattle.std.proofs.Math.Seq.{take-add}
 use Rattle.tds_packet.proofs.Futures.{Takes-more}
 use Rattle.tds_columns.specs.Gather.{BeginsColumn, BeginsColumns, BeginsDescription}

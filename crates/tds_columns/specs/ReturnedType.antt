@@ -86,8 +86,8 @@ pub record ReadsType (byte : ℕ) (old new : PayloadView) (place place' : ℕ) (
   pub place_is : place' ≡ place + length rest
 
 -- The same, over a payload before and after it.
-abbrev pub TypeRead : {R : Type 0} → (R → Option (List ℕ)) → (old new : Payload R) → (byte : ℕ) → Kind → Type 0
-TypeRead remaining old new byte kind = ReadsType byte (seen remaining old) (seen remaining new) old.place new.place kind
+abbrev pub ReturnTypeRead : {R : Type 0} → (R → Option (List ℕ)) → (old new : Payload R) → (byte : ℕ) → Kind → Type 0
+ReturnTypeRead remaining old new byte kind = ReadsType byte (seen remaining old) (seen remaining new) old.place new.place kind
 
 -- The reading of such a type stopped.
 pub record StopsType (old new : PayloadView) (place : ℕ) (stop : Stop) : Type 0 where

@@ -1,6 +1,6 @@
 // The type of the value that a procedure returns (MS-TDS, RETURNVALUE).
 ghost use Rattle.std.specs.Prelude.{◌-◌, slice_index, MatchResult, IfOk};
-ghost use Rattle.tds_columns.specs.ReturnedType.{HoldsHead, KnownType, LeavesHead, StopsType, TypeHead, TypeRead, WereTaken, returned_type};
+ghost use Rattle.tds_columns.specs.ReturnedType.{HoldsHead, KnownType, LeavesHead, StopsType, TypeHead, ReturnTypeRead, WereTaken, returned_type};
 ghost use Rattle.tds_packet.specs.Payloads.{IsGoing, LeavesPayload, seen};
 ghost use Rattle.tds_packet.specs.Reading.{Reads};
 ghost use Rattle.tds_packet.specs.PayloadView.{PayloadView};
@@ -12,8 +12,8 @@ use tds_meter::Area;
 use tds_packet::{Fault, Payload, Stop};
 use tds_values::Kind;
 
-// What faults have for the number of a column.
-const RETURN_VALUE: u16 = 0xFFFF;
+/// What faults in a RETURNVALUE have for the number of a column.
+pub const RETURN_COLUMN: u16 = 0xFFFF;
 
 /// The bytes of status, UserType, Flags and the type byte of a RETURNVALUE.
 pub const TYPE_HEAD: usize = 8;
@@ -34,7 +34,7 @@ pub fn read_type_info<R: Read>(payload: &mut Payload<R>, small: &mut Area) -> Re
     ensures payload { LeavesPayload payload.old payload.new result }
     ensures area { LeavesHead small.old small.new result }
     ensures kind { IfOk result (λ kind.
-        TypeRead R.remaining payload.old payload.new (slice_index small.old.bytes 7) kind) }
+        ReturnTypeRead R.remaining payload.old payload.new (slice_index small.old.bytes 7) kind) }
     ensures gives { (before : PayloadView) → WereTaken before (seen R.remaining payload.old) small.old.bytes →
         MatchResult result
         (λ kind. Reads returned_type TypeHead before (seen R.remaining payload.new) (KnownType kind))
@@ -42,7 +42,7 @@ pub fn read_type_info<R: Read>(payload: &mut Payload<R>, small: &mut Area) -> Re
 {
     let place = payload.place();
     let byte = small.bytes()[TYPE_HEAD - 1];
-    let rest = match judge_type(RETURN_VALUE, byte) {
+    let rest = match judge_type(RETURN_COLUMN, byte) {
         Ok(rest) => rest,
         Err(fault) => {
             return Err(Stop::in_payload(fault, place - TYPE_HEAD as u64));
@@ -54,7 +54,7 @@ pub fn read_type_info<R: Read>(payload: &mut Payload<R>, small: &mut Area) -> Re
         None => {
             small.truncate(TYPE_HEAD);
             let fault = Fault::BadTypeInfo {
-                index: RETURN_VALUE,
+                index: RETURN_COLUMN,
             };
             Err(Stop::in_payload(fault, place))
         }

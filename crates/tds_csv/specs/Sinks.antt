@@ -1,5 +1,5 @@
 -- A sink as contracts see it, and what calls do to it.
-use Rattle.std.specs.Prelude.{◌≡◌, ℕ, ◌+◌, ◌-◌, ◌*◌, ◌^◌, ◌<◌, ◌≤◌, true, false, if◌then◌else◌, List, [], ◌++◌, length, take, Option, Result, Err}
+use Rattle.std.specs.Prelude.{◌≡◌, ℕ, ◌+◌, ◌-◌, ◌*◌, ◌^◌, ◌<◌, ◌≤◌, true, false, not, List, [], ◌++◌, length, take, Option, Result, Err}
 use Rattle.std.specs.Prelude.{is_ok, MatchResult, OnOk, OnErr}
 use Rattle.std.specs.Io.KnownBytes.{Appends}
 use Rattle.tds_meter.specs.Counts.{counted}
@@ -79,7 +79,7 @@ pub record AwaitsPart {W : Type 0} (s : Sink W) : Type 0 where
 pub record PutsPiece {W U : Type 0} (contents : W → Option (List ℕ)) (old new : Sink W) (text : List ℕ) (result : Result U Stop) : Type 0 where
   pub ready : IsReady new
   pub same : IsOnSameSink old new
-  pub failed : new.failed ≡ (if is_ok result then false else true)
+  pub failed : new.failed ≡ not (is_ok result)
   pub gives : MatchResult result (λ _. Puts (held contents old) (held contents new) text) (λ stop. old.failed ≡ false
       → WritesPrefix (held contents old) (held contents new) text stop)
   pub again : old.failed ≡ true → (result ≡ Err (stop_of (held contents old))) × (new ≡ old)
@@ -88,7 +88,7 @@ pub record PutsPiece {W U : Type 0} (contents : W → Option (List ℕ)) (old ne
 pub record Delivers {W U : Type 0} (contents : W → Option (List ℕ)) (old new : Sink W) (result : Result U Stop) : Type 0 where
   pub ready : IsReady new
   pub same : IsOnSameSink old new
-  pub failed : new.failed ≡ (if is_ok result then false else true)
+  pub failed : new.failed ≡ not (is_ok result)
   pub gives : MatchResult result (λ _. Sends (held contents old) (held contents new))
       (λ stop. FinishFails (held contents old) (held contents new) stop)
   pub rest : OnErr result (0 < length new.output.now.bytes)
@@ -97,7 +97,7 @@ pub record Delivers {W U : Type 0} (contents : W → Option (List ℕ)) (old new
 pub record FinishesSink {W U : Type 0} (contents : W → Option (List ℕ)) (old new : Sink W) (result : Result U Stop) : Type 0 where
   pub ready : IsReady new
   pub same : IsOnSameSink old new
-  pub failed : new.failed ≡ (if is_ok result then false else true)
+  pub failed : new.failed ≡ not (is_ok result)
   pub gives : MatchResult result (λ _. Finishes (held contents old) (held contents new))
       (λ stop. old.failed ≡ false → FinishFails (held contents old) (held contents new) stop)
   pub again : old.failed ≡ true → (result ≡ Err (stop_of (held contents old))) × (new ≡ old)

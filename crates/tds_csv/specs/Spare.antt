@@ -1,5 +1,5 @@
 -- A sink whose room is lent for writing.
-use Rattle.std.specs.Prelude.{◌≡◌, ◌^◌, ◌-◌, ◌≤◌, ℕ, true, false, if◌then◌else◌, List, [], Option, Result, Ok, MatchResult, is_ok, length, drop, take}
+use Rattle.std.specs.Prelude.{◌≡◌, ◌^◌, ◌-◌, ◌≤◌, ℕ, false, not, List, [], Option, Result, Ok, MatchResult, is_ok, length, drop, take}
 use Rattle.std.specs.Borrow.{Lends, Fml, RattleType, MutBor, Array, u8}
 use mir.Syntax.{named}
 use Rattle.tds_meter.specs.Lent.{with_tail}
@@ -29,7 +29,7 @@ held_before contents s waiting = record (held contents s) { waiting = take waiti
 pub record KeepsPiece {W U : Type 0} (contents : W → Option (List ℕ)) (old new : Sink W) (waiting made : ℕ) (result : Result U Stop) : Type 0 where
   pub ready : IsReady new
   pub same : IsOnSameSink old new
-  pub failed : new.failed ≡ (if is_ok result then false else true)
+  pub failed : new.failed ≡ not (is_ok result)
   pub gives : let piece = take made (drop waiting old.output.now.bytes) in MatchResult result
       (λ _. Puts (held_before contents old waiting) (held contents new) piece)
       (λ stop. WritesPrefix (held_before contents old waiting) (held contents new) piece stop)

@@ -68,10 +68,10 @@ impl<'a, W: Write> Sink<'a, W> {
     pub(crate) fn check(&self) -> Result<(), Stop>
         ensures { result ≡ (if self.now.failed then Err (stop_of (held W.contents self.now)) else Ok tt) }
     {
-        if self.failed {
-            return Err(self.stop());
+        match self.failure() {
+            Some(stop) => Err(stop),
+            None => Ok(()),
         }
-        Ok(())
     }
 
     // The stop of a write or flush that fails after the bytes that were delivered.

@@ -24,9 +24,9 @@ CountsCall before after (Ok _) = IsAnswered before after
 CountsCall before after (Err _) = after ≡ one_more before
 
 -- It is told whether a reader has no byte left, if that is known.
-abbrev pub TellsEnd : Option (List ℕ) → Bool → Type 0
-TellsEnd None over = ⊤
-TellsEnd (Some bytes) over = IsTrue over ↔ (bytes ≡ [])
+abbrev pub TellsInputEnd : Option (List ℕ) → Bool → Type 0
+TellsInputEnd None over = ⊤
+TellsInputEnd (Some bytes) over = IsTrue over ↔ (bytes ≡ [])
 
 -- Fewer than n bytes were read, and none is left.
 abbrev pub RunsOut : Option (List ℕ) → Option (List ℕ) → ℕ → Type 0

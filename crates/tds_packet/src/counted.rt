@@ -3,7 +3,7 @@ ghost use Rattle.std.specs.Io.KnownBytes.{Appends, Consumes, IsAtEnd, Keeps};
 ghost use Rattle.std.specs.Prelude.{◌≡◌, ◌-◌, ◌^◌, ◌<◌, ◌≤◌, length, take, IfErr, IfOk, IsTrue, OnErr, OnOk, false};
 ghost use Rattle.tds_meter.specs.Counts.{one_more};
 ghost use Rattle.tds_packet.specs.Devices.{device};
-ghost use Rattle.tds_packet.specs.Filling.{CountsCall, FillsSlice, Rises, Stays, TellsEnd};
+ghost use Rattle.tds_packet.specs.Filling.{CountsCall, FillsSlice, Rises, Stays, TellsInputEnd};
 
 use std::io::{BufRead, Read, Write};
 
@@ -111,7 +111,7 @@ impl<R: BufRead> Counted<R> {
     /// Whether the input is over. No byte is taken, but the reader may read ahead. [`Failed`] if that failed.
     pub fn is_over(&mut self) -> Result<bool, Failed>
         ensures keeps { Keeps (R.remaining self.old.device) (R.remaining self.new.device) }
-        ensures over { IfOk result (TellsEnd (R.remaining self.old.device)) }
+        ensures over { IfOk result (TellsInputEnd (R.remaining self.old.device)) }
         ensures counts { CountsCall self.old.failures self.new.failures result }
     {
         if self.failures == u64::MAX {

@@ -10,7 +10,7 @@ known_kept : {xs : List ℕ} (a b : Option (List ℕ)) → a ≡ Some xs → N.K
 known_kept = grind arith
 
 -- a reader that is told to be over has no byte left, and one that is told not to be has some
-told_over : (xs : List ℕ) (a : Option (List ℕ)) → a ≡ Some xs → N.TellsEnd a N.true → xs ≡ []
+told_over : (xs : List ℕ) (a : Option (List ℕ)) → a ≡ Some xs → N.TellsInputEnd a N.true → xs ≡ []
 told_over = grind arith
 
 -- a count that stayed didn't rise

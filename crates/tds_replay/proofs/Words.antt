@@ -13,7 +13,7 @@ pub use Rattle.tds_meter.specs.Counts.{Rose, last_count}
 pub use Rattle.tds_meter.specs.declared.limits.Limits.{Limits}
 pub use Rattle.tds_packet.proofs.ElementLaws.{AreBytes-back}
 pub use Rattle.tds_packet.specs.Elements.{AreBytes}
-pub use Rattle.tds_packet.specs.Filling.{IsAnswered, TellsEnd}
+pub use Rattle.tds_packet.specs.Filling.{IsAnswered, TellsInputEnd}
 pub use Rattle.tds_packet.specs.Packets.{AreMessage, Packet, wire_of}
 pub use Rattle.tds_packet.specs.declared.counted.Counted.{Counted}
 pub use Rattle.tds_values.specs.declared.charset.Charset.{Charset}

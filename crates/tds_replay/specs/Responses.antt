@@ -9,7 +9,7 @@ use Rattle.tds_meter.specs.declared.limits.Limits.{Limits}
 use Rattle.tds_packet.specs.declared.fault.Fault.TheVariants.{ReadFailed}
 use Rattle.tds_packet.specs.declared.fault.Place.TheVariants.{Wire}
 use Rattle.tds_packet.specs.Elements.{AreBytes}
-use Rattle.tds_packet.specs.Filling.{IsAnswered, TellsEnd}
+use Rattle.tds_packet.specs.Filling.{IsAnswered, TellsInputEnd}
 use Rattle.tds_packet.specs.Packets.{Message, Packet, payload_of, wire_of}
 use Rattle.tds_values.specs.declared.charset.Charset.{Charset}
 use Rattle.tds_export.specs.declared.report.Report.{Report}
@@ -35,7 +35,7 @@ pub record LooksAhead {R W N : Type 0} (tell : Telling R W N) (old new : Standin
 -- It was seen whether the input is over.
 pub record Sees {R W N : Type 0} (tell : Telling R W N) (over : Bool) (old new : Standing R W N) : Type 0 where
   pub looks : LooksAhead tell old new
-  pub told : TellsEnd (tell.remaining old.devices.from.device) over
+  pub told : TellsInputEnd (tell.remaining old.devices.from.device) over
   pub counts : new.devices.from.failures ≡ old.devices.from.failures
   pub notes : new.devices.notes ≡ old.devices.notes
 

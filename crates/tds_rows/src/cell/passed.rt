@@ -15,12 +15,10 @@ ghost use Rattle.tds_values.specs.Kind as kinds;
 use crate::cell::gathered::{gather_scalar, length_size, refusal};
 use crate::cell::lengths::{read_chunk_length, read_short_length, read_total};
 use std::io::Read;
+use tds_columns::RETURN_COLUMN;
 use tds_meter::Area;
 use tds_packet::{Payload, Stop};
 use tds_values::{Kind, Reach, ValueFault, read_scalar};
-
-/// The column of the stops in the value of a RETURNVALUE.
-pub(crate) const RETURN_COLUMN: u16 = 65535;
 
 // Passes over the next bytes that are in the packet, at most `most`, or over the first byte of another packet.
 // Returns how many they are.
