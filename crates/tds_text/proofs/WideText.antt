@@ -279,10 +279,16 @@ pub all_more : {bytes old new : List ℕ} {at made after : ℕ} (w : ℕ) → at
 all_more {bytes} w room single small written before = units_more w w (lies_itself bytes) room (omega arith) single room small written before
 
 -- so were sixteen units of two loads, of characters of ASCII
-pub plain_more : {bytes old new low : List ℕ} {at made : ℕ} → at + 32 ≤ length bytes → made ≤ length old
+pub plain_more : {bytes old new low : List ℕ} {at end made : ℕ} → at + 32 ≤ end → length new ≡ length old
     → Each1 (λ u. is_wide u ≡ false) (units (chunk at 16 bytes ++ chunk (at + 16) 16 bytes)) → low ≡ N.evens (chunk at 16 bytes ++ chunk (at + 16) 16 bytes)
-    → take (made + 16) new ≡ take made old ++ take 16 low → N.Converts bytes old at made → N.Converts bytes new (at + 32) (made + 16)
-plain_more {bytes} {old} {new} {low} {at} {made} room within plain low_is written before =
+    → take (made + 16) new ≡ take made old ++ take 16 low → N.MayConvertSingles bytes old at end made
+    → N.MayConvertSingles bytes new (at + 32) end (made + 16)
+plain_more {bytes} {old} {new} {low} {at} {end} {made} room same plain low_is written may =
     let two = two_chunks 16 16 at bytes in
-    let added = plain_added (chunk at 32 bytes) old new _ 16 16 (omega arith) within refl refl (rw two at plain) (low_is ∙ ap N.evens two) written in
-    all_more 16 room added.1 (omega arith) added.0 before
+    let added = plain_added (chunk at 32 bytes) old new _ 16 16 (omega N.arith) (omega N.arith) refl refl (rw two at plain) (low_is ∙ ap N.evens two) written in
+    record {
+      before = all_more 16 (omega N.arith) added.1 (omega N.arith) added.0 may.before;
+      more = room;
+      within = may.within;
+      room = omega N.arith;
+    }

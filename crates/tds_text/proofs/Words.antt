@@ -35,7 +35,7 @@ pub use Rattle.tds_text.specs.Conversion.{IsFit, unit, is_begun}
 pub use Rattle.tds_text.specs.Plain.{ArePlain, LiesIn, first_set, is_plain, evens, is_unquoted}
 pub use Rattle.tds_text.specs.Quoting.{quote, doubled, doubled_byte, quoted_field, binary_field, line, after_comma}
 pub use Rattle.tds_text.specs.declared.windows_1252.TheConstants.{UPPER}
-pub use Rattle.tds_text.specs.Utf16Next.{Converts, LeavesRest, seam}
+pub use Rattle.tds_text.specs.Utf16Next.{Converts, LeavesRest, MayConvertSingles, seam}
 pub use Rattle.tds_text.specs.Wide.{AddsQuads, high_quad, is_half, is_long, is_other, is_wide, low_and_high, low_quad, pair, pair_bytes, quad_bytes}
 pub use Rattle.tds_text.specs.Wide.{triples, unit_text, units_text}
 pub use Rattle.tds_text.specs.declared.places.TheConstants.{FIRST, PAIRS, QUADS}

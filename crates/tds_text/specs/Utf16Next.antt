@@ -1,10 +1,13 @@
 -- The steps through text in UTF-16.
-use Rattle.std.specs.Prelude.{◌≡◌, ℕ, ◌+◌, ◌*◌, ◌%◌, ◌<◌, ◌≤◌, List, [], ◌∷◌, ◌++◌, length, drop, take}
+use Rattle.std.specs.Prelude.{◌≡◌, ℕ, ◌+◌, ◌-◌, ◌*◌, ◌%◌, ◌<◌, ◌≤◌, false, List, [], ◌∷◌, ◌++◌, length, drop, take}
 use Rattle.std.specs.Char.{IsScalar, encode_utf8}
 use Rattle.tds_text.specs.Joining.{Leads, emit}
 use Rattle.tds_text.specs.Plain.{LiesIn}
 use Rattle.tds_text.specs.Quoting.{doubled}
-use Rattle.tds_text.specs.Utf16.{characters, rest, text}
+use Rattle.tds_text.specs.Utf16.{characters, rest, text, units}
+use Rattle.tds_text.specs.Wide.{is_wide}
+use Rattle.tds_values.specs.declared.span.Span.{Span}
+use lib.Lanes.{Each1, chunk}
 
 -- a number of the first bytes are this character, whatever follows
 pub record IsNext (bytes : List ℕ) (code len : ℕ) : Type 0 where
@@ -31,6 +34,24 @@ pub record ConvertsIn (bytes source to : List ℕ) (used made : ℕ) : Type 0 wh
   pub inside : LiesIn bytes source
   pub long : 3 * length bytes + 32 ≤ 2 * length to
   pub before : Converts bytes to used made
+
+-- The bytes before the first place were converted, and there is room for one byte of text for each unit from it up to the end.
+pub record MayConvertSingles (bytes to : List ℕ) (from end start : ℕ) : Type 0 where
+  pub before : Converts bytes to from start
+  pub more : from ≤ end
+  pub within : end ≤ length bytes
+  pub room : end - from + 2 * start ≤ 2 * length to
+
+-- The bytes before a place up to the end were converted, those from the first place on to one byte of text for each unit.
+pub record ConvertsSingles (bytes to : List ℕ) (from end start : ℕ) (done : Span) : Type 0 where
+  pub more : from ≤ done.used
+  pub within : done.used ≤ end
+  pub single : done.used + 2 * start ≡ from + 2 * done.made
+  pub after : Converts bytes to done.used done.made
+
+-- If sixteen units come before the end from this place on, one of them is a quote or not of ASCII.
+abbrev pub StopsAtWide : List ℕ → ℕ → ℕ → Type 0
+StopsAtWide bytes at end = at + 32 ≤ end → Each1 (λ u. is_wide u ≡ false) (units (chunk at 32 bytes)) → ⊥
 
 -- What comes after this place is the rest of the bytes from another place on.
 pub record LeavesRest (bytes : List ℕ) (from at : ℕ) : Type 0 where

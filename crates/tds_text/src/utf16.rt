@@ -1,13 +1,12 @@
 // Characters of text in UTF-16.
 ghost use Rattle.std.specs.Prelude.{◌≡◌, ◌||◌, ◌+◌, ◌-◌, ◌*◌, ◌<◌, ◌≤◌, ◌%◌, ◌++◌, false, true, length, min, take, drop, slice_index, if◌then◌else◌, MatchOption, IfSome};
-ghost use Rattle.std.specs.Simd.Lanes.{Each1, chunk};
 ghost use Rattle.std.specs.Char.{encode_utf8};
 ghost use Rattle.std.specs.Char.Utf16.{is_high_surrogate, is_low_surrogate};
 ghost use Rattle.tds_text.specs.Joining.{emit};
 ghost use Rattle.tds_text.specs.Plain.{LiesIn};
 ghost use Rattle.tds_text.specs.Utf16 as utf16;
-ghost use Rattle.tds_text.specs.Wide.{is_wide};
-ghost use Rattle.tds_text.specs.Utf16Next.{Converts, ConvertsIn, IsCharacter, IsNext, LeavesRest};
+ghost use Rattle.tds_text.specs.Utf16Next.{Converts, ConvertsIn, ConvertsSingles, IsCharacter, IsNext, LeavesRest};
+ghost use Rattle.tds_text.specs.Utf16Next.{MayConvertSingles, StopsAtWide};
 
 use crate::beyond_ascii::put_units;
 use crate::encode::{put_lanes, put_quoted};
@@ -137,12 +136,8 @@ pub(crate) fn convert_one(bytes: &[u8], from: usize, to: &mut [u8], start: usize
 // Goes on with the text by 32 units, as long as all of them are characters of ASCII, none is a quote, and they come before `end`.
 #[inline(always)]
 fn convert_blocks(bytes: &[u8], from: usize, end: usize, to: &mut [u8], start: usize) -> Span
-    requires before { Converts bytes.now to.old from start }
-    requires within { (from ≤ end) × (end ≤ length bytes.now) }
-    requires room { end - from + 2 * start ≤ 2 * length to.old }
-    ensures within { (from ≤ result.used) × (result.used ≤ end) }
-    ensures single { result.used + 2 * start ≡ from + 2 * result.made }
-    ensures after { Converts bytes.now to.new result.used result.made }
+    requires { MayConvertSingles bytes.now to.old from end start }
+    ensures { ConvertsSingles bytes.now to.new from end start result }
 {
     let mut at = from;
     let mut made = start;
@@ -174,14 +169,9 @@ fn convert_blocks(bytes: &[u8], from: usize, end: usize, to: &mut [u8], start: u
 // Goes on with the text by sixteen units, as long as all of them are characters of ASCII, none is a quote, and they come before `end`.
 #[inline(always)]
 fn convert_plain(bytes: &[u8], from: usize, end: usize, to: &mut [u8], start: usize) -> Span
-    requires before { Converts bytes.now to.old from start }
-    requires within { (from ≤ end) × (end ≤ length bytes.now) }
-    requires room { end - from + 2 * start ≤ 2 * length to.old }
-    ensures within { (from ≤ result.used) × (result.used ≤ end) }
-    ensures single { result.used + 2 * start ≡ from + 2 * result.made }
-    ensures after { Converts bytes.now to.new result.used result.made }
-    ensures ends { result.used + 32 ≤ end →
-        Each1 (λ u. is_wide u ≡ false) (utf16.units (chunk result.used 32 bytes.now)) → ⊥ }
+    requires { MayConvertSingles bytes.now to.old from end start }
+    ensures gives { ConvertsSingles bytes.now to.new from end start result }
+    ensures ends { StopsAtWide bytes.now result.used end }
 {
     let mut at = from;
     let mut made = start;
@@ -206,14 +196,9 @@ fn convert_plain(bytes: &[u8], from: usize, end: usize, to: &mut [u8], start: us
 /// come before `end`.
 #[inline(always)]
 pub fn convert_ascii(bytes: &[u8], from: usize, end: usize, to: &mut [u8], start: usize) -> Span
-    requires before { Converts bytes.now to.old from start }
-    requires within { (from ≤ end) × (end ≤ length bytes.now) }
-    requires room { end - from + 2 * start ≤ 2 * length to.old }
-    ensures within { (from ≤ result.used) × (result.used ≤ end) }
-    ensures single { result.used + 2 * start ≡ from + 2 * result.made }
-    ensures after { Converts bytes.now to.new result.used result.made }
-    ensures ends { result.used + 32 ≤ end →
-        Each1 (λ u. is_wide u ≡ false) (utf16.units (chunk result.used 32 bytes.now)) → ⊥ }
+    requires { MayConvertSingles bytes.now to.old from end start }
+    ensures gives { ConvertsSingles bytes.now to.new from end start result }
+    ensures ends { StopsAtWide bytes.now result.used end }
 {
     let front = convert_blocks(bytes, from, end, to, start);
     convert_plain(bytes, front.used, end, to, front.made)

@@ -4,8 +4,8 @@ use N.{◌≡◌, ◌∙◌, ◌≤◌, ◌++◌, ◌+◌, ◌-◌, ◌*◌, ◌
 use borrow.Rule.Slice.PartMut.{put_mid}
 use N.WideText.{lies_itself, none_converted, units_more}
 
-pub convert_ascii-plain-requires-clause-before : goal.convert_ascii-plain-requires-clause-before
-convert_ascii-plain-requires-clause-before c =
+pub convert_ascii-plain-requires : goal.convert_ascii-plain-requires
+convert_ascii-plain-requires c =
     let bytes = c.args.bytes.now in
     let few = length bytes / 2 % 16 in
     let some = few % 8 in
@@ -15,8 +15,13 @@ convert_ascii-plain-requires-clause-before c =
     let begun = rw at at (units_more {at = 0} {made = 0} some 8 (lies_itself bytes) (omega N.arith) (omega N.arith) first.single (omega N.arith) first.most
     first.written (none_converted bytes c.args.to.now)) in
     let all : 2 * some + 2 * (few - some) ≡ 2 * few = omega N.arith in
-    rw all at (units_more {at = 2 * some} {made = c.in_ok-first.first} (few - some) 8 (lies_itself bytes) (omega N.arith) (omega N.arith) second.single
-    (omega N.arith) second.most second.written begun)
+    record {
+      before = rw all at (units_more {at = 2 * some} {made = c.in_ok-first.first} (few - some) 8 (lies_itself bytes) (omega N.arith) (omega N.arith)
+          second.single (omega N.arith) second.most second.written begun);
+      more = omega N.arith;
+      within = omega N.arith;
+      room = omega N.arith;
+    }
 
 -- a text and more after it
 take_put : (a k n : ℕ) (xs ys : List ℕ) → a ≤ length xs → n ≤ length ys → take a xs ++ take n ys ≡ take (a + n) (put_mid a k xs ys)

@@ -14,8 +14,6 @@ loop-at-preserved c =
     record {
       more = omega N.arith;
       single = omega N.arith;
-      room = omega N.arith;
-      within = omega N.arith;
       now = rw (used, made) at (plain_more {at = l.at + 32} {made = l.made + 16} (omega N.arith) (omega N.arith)
           (c.are_many_plain.ensures.back are_plain) c.all_low_bytes-in-loop-at.ensures c.put_lanes-in-loop-at.ensures first);
     }

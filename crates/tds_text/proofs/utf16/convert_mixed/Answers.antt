@@ -2,11 +2,16 @@ use Rattle.tds_text.proofs as N
 use N.utf16.convert_mixed.Goals as goal
 use N.WideText.{all_more, plain_added}
 
-pub convert_plain-run-requires-clause-before : goal.convert_plain-run-requires-clause-before
-convert_plain-run-requires-clause-before g c =
+pub convert_plain-run-requires : goal.convert_plain-run-requires
+convert_plain-run-requires g c =
     let added = plain_added (N.chunk c.loop-at.at 16 c.args.bytes.now) _ _ _ 8 8 (omega N.arith) (omega N.arith)
     c.units_of.ensures N.refl (c.if-are_plain.ensures N.refl) c.low_bytes.ensures c.put_lanes.ensures in
-    all_more 8 (omega N.arith) added.1 (omega N.arith) added.0 c.loop-at.invariant.now
+    record {
+      before = all_more 8 (omega N.arith) added.1 (omega N.arith) added.0 c.loop-at.invariant.now;
+      more = omega N.arith;
+      within = omega N.arith;
+      room = omega N.arith;
+    }
 
 pub loop-at-preserved : goal.loop-at-preserved
 loop-at-preserved g c =

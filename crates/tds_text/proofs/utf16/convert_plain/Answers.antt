@@ -11,8 +11,6 @@ loop-at-preserved c =
     record {
       more = omega N.arith;
       single = omega N.arith;
-      room = omega N.arith;
-      within = omega N.arith;
-      now = plain_more (omega N.arith) (omega N.arith) (c.are_all_plain.ensures.plain (grind (N.arith, c.if-not-are_all_plain.false)))
-          c.all_low_bytes.ensures c.put_lanes.ensures c.loop-at.invariant.now;
+      now = plain_more (omega N.arith) (omega N.arith) (c.are_all_plain.ensures.plain (grind (N.arith, c.if-not-are_all_plain.false))) c.all_low_bytes.ensures
+          c.put_lanes.ensures c.loop-at.invariant.now;
     }

@@ -1,16 +1,14 @@
 use Rattle.tds_text.proofs as N
-use N.{◌+◌, ◌≤◌, ◌≡◌, ◌*◌, ◌-◌, length}
-use Rattle.tds_text.specs.Utf16Next.{Converts}
+use N.{◌+◌, ◌≤◌, ◌≡◌, ◌*◌, ◌-◌}
+use Rattle.tds_text.specs.Utf16Next.{MayConvertSingles}
 use N.utf16.convert_plain.Given as goal
 
--- the text so far is that of the bytes so far, and there is a byte of room for each unit up to the end
+-- the text so far has a byte for each unit, and what is left may be converted so
 abbrev pub invariant-loop-at : goal.invariant-loop-at
 invariant-loop-at l = record {
   more : l.from ≤ l.at;
   single : l.at + 2 * l.start ≡ l.from + 2 * l.made;
-  room : l.end - l.at + 2 * l.made ≤ 2 * length l.to;
-  within : l.at ≤ l.end;
-  now : Converts l.bytes l.to l.at l.made;
+  now : MayConvertSingles l.bytes l.to l.at l.end l.made;
 }
 
 abbrev pub decreases-loop-at : goal.decreases-loop-at
