@@ -35,6 +35,11 @@ pub record ConvertsIn (bytes source to : List ℕ) (used made : ℕ) : Type 0 wh
   pub long : 3 * length bytes + 32 ≤ 2 * length to
   pub before : Converts bytes to used made
 
+-- The bytes before a place were converted, and that place does not come before this one.
+pub record GoesOn (bytes to : List ℕ) (from : ℕ) (done : Span) : Type 0 where
+  pub more : from ≤ done.used
+  pub after : Converts bytes to done.used done.made
+
 -- The bytes before the first place were converted, and there is room for one byte of text for each unit from it up to the end.
 pub record MayConvertSingles (bytes to : List ℕ) (from end start : ℕ) : Type 0 where
   pub before : Converts bytes to from start
@@ -44,10 +49,9 @@ pub record MayConvertSingles (bytes to : List ℕ) (from end start : ℕ) : Type
 
 -- The bytes before a place up to the end were converted, those from the first place on to one byte of text for each unit.
 pub record ConvertsSingles (bytes to : List ℕ) (from end start : ℕ) (done : Span) : Type 0 where
-  pub more : from ≤ done.used
+  pub goes_on : GoesOn bytes to from done
   pub within : done.used ≤ end
   pub single : done.used + 2 * start ≡ from + 2 * done.made
-  pub after : Converts bytes to done.used done.made
 
 -- If sixteen units come before the end from this place on, one of them is a quote or not of ASCII.
 abbrev pub StopsAtWide : List ℕ → ℕ → ℕ → Type 0

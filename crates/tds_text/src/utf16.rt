@@ -5,7 +5,7 @@ ghost use Rattle.std.specs.Char.Utf16.{is_high_surrogate, is_low_surrogate};
 ghost use Rattle.tds_text.specs.Joining.{emit};
 ghost use Rattle.tds_text.specs.Plain.{LiesIn};
 ghost use Rattle.tds_text.specs.Utf16 as utf16;
-ghost use Rattle.tds_text.specs.Utf16Next.{Converts, ConvertsIn, ConvertsSingles, IsCharacter, IsNext, LeavesRest};
+ghost use Rattle.tds_text.specs.Utf16Next.{Converts, ConvertsIn, ConvertsSingles, GoesOn, IsCharacter, IsNext, LeavesRest};
 ghost use Rattle.tds_text.specs.Utf16Next.{MayConvertSingles, StopsAtWide};
 
 use crate::beyond_ascii::put_units;
@@ -116,9 +116,8 @@ pub fn character_at(bytes: &[u8], at: usize) -> Character
 pub(crate) fn convert_one(bytes: &[u8], from: usize, to: &mut [u8], start: usize) -> Span
     requires long { 3 * length bytes.now + 2 * LANES ≤ 2 * length to.old }
     requires before { Converts bytes.now to.old from start }
-    ensures more { from ≤ result.used }
+    ensures gives { GoesOn bytes.now to.new from result }
     ensures held { result.used ≡ from → utf16.rest (drop from bytes.now) ≡ drop from bytes.now }
-    ensures after { Converts bytes.now to.new result.used result.made }
 {
     let Some(next) = next_character(bytes, from) else {
         return Span {
@@ -211,8 +210,7 @@ fn convert_full(bytes: &[u8], last: usize, from: usize, to: &mut [u8], start: us
     requires last { last + LANES ≤ length bytes.now }
     requires long { 3 * length bytes.now + 2 * LANES ≤ 2 * length to.old }
     requires before { Converts bytes.now to.old from start }
-    ensures more { from ≤ result.used }
-    ensures after { Converts bytes.now to.new result.used result.made }
+    ensures { GoesOn bytes.now to.new from result }
 {
     let mut at = from;
     let mut made = start;
@@ -268,10 +266,9 @@ pub(crate) fn convert_mixed<const ROOMY: bool>(
     requires fits { start ≤ length to.old }
     requires roomy { ROOMY ≡ true → 3 * length bytes.now + 2 * LANES ≤ 2 * length to.old }
     requires before { Converts bytes.now to.old from start }
-    ensures more { from ≤ result.used }
+    ensures gives { GoesOn bytes.now to.new from result }
     ensures fits { result.made ≤ length to.old }
     ensures whole { result.used % 2 ≡ from % 2 }
-    ensures after { Converts bytes.now to.new result.used result.made }
 {
     let mut at = from;
     let mut made = start;
@@ -312,8 +309,7 @@ fn convert_some(
     requires most { n ≤ UNITS }
     requires within { from + 2 * n ≤ length bytes.now }
     requires before { ConvertsIn bytes.now source.now to.old from start }
-    ensures more { from ≤ result.used }
-    ensures after { Converts bytes.now to.new result.used result.made }
+    ensures { GoesOn bytes.now to.new from result }
 {
     let nothing = Span {
         used: from,
@@ -336,8 +332,7 @@ fn convert_some(
 #[inline(always)]
 fn convert_run(bytes: &[u8], source: &[u8], from: usize, to: &mut [u8], start: usize) -> Span
     requires { ConvertsIn bytes.now source.now to.old from start }
-    ensures more { from ≤ result.used }
-    ensures after { Converts bytes.now to.new result.used result.made }
+    ensures { GoesOn bytes.now to.new from result }
 {
     let few = (bytes.len() - from) / 2 % UNITS;
     let run = convert_some(bytes, source, from, to, start, few);

@@ -12,5 +12,8 @@ loop-end-preserved c =
       now = all_more 8 (omega N.arith) end.single end.most end.written c.loop-end.invariant.now;
     }
 
-pub returns-then-at-last-clause-after : goal.returns-then-at-last-clause-after
-returns-then-at-last-clause-after c = let end = c.in-Some.ensures in all_more 8 (omega N.arith) end.single end.most end.written c.loop-end.invariant.now
+pub returns-then-at-last : goal.returns-then-at-last
+returns-then-at-last c = let end = c.in-Some.ensures in record {
+  more = omega N.arith;
+  after = all_more 8 (omega N.arith) end.single end.most end.written c.loop-end.invariant.now;
+}

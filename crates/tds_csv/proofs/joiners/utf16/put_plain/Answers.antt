@@ -17,7 +17,7 @@ returns-clause-puts g c =
       take done.result.made done.new.to,
       N.LentRooms.kept_puts c.args.sink.now c.spare.result.now done.new.to c.waiting-waiting.result done.auto.to c.waiting-waiting.ensures
           c.requires.writing N.refl c.commit.ensures,
-      done.ensures.gives.after.leads,
+      done.ensures.gives.goes_on.after.leads,
     )
 
 pub returns-then-room-lt-MUCH_ROOM-clause-puts : goal.returns-then-room-lt-MUCH_ROOM-clause-puts
