@@ -2,7 +2,7 @@
 ghost use Rattle.byteorder.specs.Endian.{little_number};
 ghost use Rattle.std.specs.Prelude.{◌≡◌, ◌+◌, ◌%◌, ◌≤◌, length, take};
 ghost use Rattle.tds_text.specs.Conversion.{Utf16Text, long_field};
-ghost use Rattle.tds_text.specs.Fields.{field_room};
+ghost use Rattle.tds_text.specs.Fields.{IsField, field_room};
 ghost use Rattle.tds_text.specs.Plain.{LiesIn};
 ghost use Rattle.tds_text.specs.Quoting.{in_line};
 ghost use Rattle.tds_csv.specs.Sinks.{IsWriting, PutsPiece};
@@ -65,8 +65,7 @@ fn write_few(units: &[u8], to: &mut [u8]) -> usize
     requires even { length units.now % 2 ≡ 0 }
     requires few { length units.now ≤ 16 }
     requires room { field_room Utf16Text (length units.now) ≤ length to.old }
-    ensures most { result + 2 ≤ length to.old }
-    ensures field { take result to.new ≡ long_field Utf16Text units.now }
+    ensures { IsField Utf16Text units.now to.new result }
 {
     write_few_utf16(units, padded(units), to)
 }
@@ -76,8 +75,7 @@ fn write_few(units: &[u8], to: &mut [u8]) -> usize
 fn write_longer(units: &[u8], to: &mut [u8]) -> usize
     requires even { length units.now % 2 ≡ 0 }
     requires room { field_room Utf16Text (length units.now) ≤ length to.old }
-    ensures most { result + 2 ≤ length to.old }
-    ensures field { take result to.new ≡ long_field Utf16Text units.now }
+    ensures { IsField Utf16Text units.now to.new result }
 {
     let n = units.len();
     if n > PADDED - LANES {
@@ -93,8 +91,7 @@ fn write_longer(units: &[u8], to: &mut [u8]) -> usize
 fn write_units(units: &[u8], to: &mut [u8]) -> usize
     requires even { length units.now % 2 ≡ 0 }
     requires room { field_room Utf16Text (length units.now) ≤ length to.old }
-    ensures most { result + 2 ≤ length to.old }
-    ensures field { take result to.new ≡ long_field Utf16Text units.now }
+    ensures { IsField Utf16Text units.now to.new result }
 {
     if units.len() <= LANES {
         return write_few(units, to);

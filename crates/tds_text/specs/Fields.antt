@@ -1,5 +1,5 @@
 -- The field of a whole value, written to a slice.
-use Rattle.std.specs.Prelude.{◌≡◌, ℕ, ◌+◌, ◌*◌, ◌/◌, true, false, List, take, Option, MatchOption}
+use Rattle.std.specs.Prelude.{◌≡◌, ℕ, ◌+◌, ◌*◌, ◌/◌, ◌≤◌, true, List, length, take}
 use Rattle.tds_text.specs.declared.fields.Content.{Content}
 use Rattle.tds_text.specs.declared.fields.Content.TheVariants.{Binary, Utf16, Windows1252, Utf8}
 use Rattle.tds_text.specs.Conversion.{Conversion, HexDigits, Utf16Text, Windows1252Text, Utf8Text, is_fit, long_field}
@@ -18,7 +18,8 @@ field_room Utf16Text n = n + n / 2 + 20
 field_room Windows1252Text n = 3 * n + 20
 field_room Utf8Text n = 2 * n + 20
 
--- The first bytes of a room, this number of them, are the field of these data, which are whole; or these aren't whole.
-abbrev pub FieldWritten : Conversion → List ℕ → List ℕ → Option ℕ → Type 0
-FieldWritten c bytes room result = MatchOption result (is_fit c bytes ≡ false) (λ made. (is_fit c bytes ≡ true)
-    × (take made room ≡ long_field c bytes))
+-- These data are whole, and the first bytes of a room, this number of them, are their field. Two or more are left after it.
+pub record IsField (c : Conversion) (bytes to : List ℕ) (made : ℕ) : Type 0 where
+  pub whole : is_fit c bytes ≡ true
+  pub most : made + 2 ≤ length to
+  pub field : take made to ≡ long_field c bytes

@@ -1,7 +1,7 @@
 // The field of a whole value of a long kind, written to a slice.
-ghost use Rattle.std.specs.Prelude.{◌≡◌, ◌⊎◌, ◌+◌, ◌*◌, ◌%◌, ◌<◌, ◌≤◌, ◌++◌, ◌∷◌, [], length, take, IfSome, None};
-ghost use Rattle.tds_text.specs.Conversion.{HexDigits, Utf16Text, Utf8Text, Windows1252Text, long_field};
-ghost use Rattle.tds_text.specs.Fields.{FieldWritten, conversion_of, field_room};
+ghost use Rattle.std.specs.Prelude.{◌≡◌, ◌⊎◌, ◌+◌, ◌*◌, ◌%◌, ◌<◌, ◌≤◌, ◌++◌, ◌∷◌, [], false, length, take, MatchOption};
+ghost use Rattle.tds_text.specs.Conversion.{HexDigits, Utf16Text, Utf8Text, Windows1252Text, is_fit};
+ghost use Rattle.tds_text.specs.Fields.{IsField, conversion_of, field_room};
 ghost use Rattle.tds_text.specs.Plain.{LiesIn};
 ghost use Rattle.tds_text.specs.Quoting.{quote};
 
@@ -58,8 +58,7 @@ pub(crate) fn close_quoted(to: &mut [u8], made: usize) -> usize
 fn write_binary(source: &[u8], n: usize, to: &mut [u8]) -> usize
     requires within { n ≤ length source.now }
     requires room { field_room HexDigits n ≤ length to.old }
-    ensures most { result + 2 ≤ length to.old }
-    ensures field { take result to.new ≡ long_field HexDigits (take n source.now) }
+    ensures { IsField HexDigits (take n source.now) to.new result }
 {
     let end = 2 + 2 * n;
     to[0] = BINARY_MARK[0];
@@ -79,8 +78,7 @@ fn write_long_utf16(source: &[u8], n: usize, to: &mut [u8]) -> usize
     requires within { n ≤ length source.now }
     requires whole { n % 2 ≡ 0 }
     requires room { field_room Utf16Text n ≤ length to.old }
-    ensures most { result + 2 ≤ length to.old }
-    ensures field { take result to.new ≡ long_field Utf16Text (take n source.now) }
+    ensures { IsField Utf16Text (take n source.now) to.new result }
 {
     to[0] = QUOTE;
     let rest = &mut to[1..];
@@ -95,8 +93,7 @@ pub fn write_utf16(source: &[u8], n: usize, to: &mut [u8]) -> usize
     requires within { n ≤ length source.now }
     requires whole { n % 2 ≡ 0 }
     requires room { field_room Utf16Text n ≤ length to.old }
-    ensures most { result + 2 ≤ length to.old }
-    ensures field { take result to.new ≡ long_field Utf16Text (take n source.now) }
+    ensures { IsField Utf16Text (take n source.now) to.new result }
 {
     if n >= LONG {
         return write_long_utf16(source, n, to);
@@ -116,8 +113,7 @@ pub fn write_few_utf16(units: &[u8], lanes: u8x16, to: &mut [u8]) -> usize
     requires lanes { LiesIn units.now lanes }
     requires whole { length units.now % 2 ≡ 0 }
     requires room { field_room Utf16Text (length units.now) ≤ length to.old }
-    ensures most { result + 2 ≤ length to.old }
-    ensures field { take result to.new ≡ long_field Utf16Text units.now }
+    ensures { IsField Utf16Text units.now to.new result }
 {
     to[0] = QUOTE;
     let made = utf16::convert_few(units, lanes, &mut to[1..]);
@@ -130,8 +126,7 @@ pub fn write_few_utf16(units: &[u8], lanes: u8x16, to: &mut [u8]) -> usize
 fn write_long_windows_1252(source: &[u8], n: usize, to: &mut [u8]) -> usize
     requires within { n ≤ length source.now }
     requires room { field_room Windows1252Text n ≤ length to.old }
-    ensures most { result + 2 ≤ length to.old }
-    ensures field { take result to.new ≡ long_field Windows1252Text (take n source.now) }
+    ensures { IsField Windows1252Text (take n source.now) to.new result }
 {
     to[0] = QUOTE;
     let made = windows_1252::convert(&source[..n], source, &mut to[1..]);
@@ -143,8 +138,7 @@ fn write_long_windows_1252(source: &[u8], n: usize, to: &mut [u8]) -> usize
 fn write_windows_1252(source: &[u8], n: usize, to: &mut [u8]) -> usize
     requires within { n ≤ length source.now }
     requires room { field_room Windows1252Text n ≤ length to.old }
-    ensures most { result + 2 ≤ length to.old }
-    ensures field { take result to.new ≡ long_field Windows1252Text (take n source.now) }
+    ensures { IsField Windows1252Text (take n source.now) to.new result }
 {
     if n >= MANY {
         return write_long_windows_1252(source, n, to);
@@ -160,8 +154,7 @@ fn write_windows_1252(source: &[u8], n: usize, to: &mut [u8]) -> usize
 fn write_utf8(source: &[u8], n: usize, to: &mut [u8]) -> Option<usize>
     requires within { n ≤ length source.now }
     requires room { field_room Utf8Text n ≤ length to.old }
-    ensures most { IfSome result (λ made. made + 2 ≤ length to.old) }
-    ensures gives { FieldWritten Utf8Text (take n source.now) to.new result }
+    ensures { MatchOption result (is_fit Utf8Text (take n source.now) ≡ false) (λ made. IsField Utf8Text (take n source.now) to.new made) }
 {
     to[0] = QUOTE;
     let made = utf8::convert_whole(&source[..n], source, &mut to[1..])?;
@@ -176,9 +169,9 @@ fn write_utf8(source: &[u8], n: usize, to: &mut [u8]) -> Option<usize>
 pub fn write_field(content: Content, source: &[u8], n: usize, to: &mut [u8]) -> Option<usize>
     requires within { n ≤ length source.now }
     requires few { n ≤ 65535 }
-    ensures most { IfSome result (λ made. made + 2 ≤ length to.old) }
-    ensures gives { FieldWritten (conversion_of content) (take n source.now) to.new result
-        ⊎ ((result ≡ None) × (length to.old < field_room (conversion_of content) n)) }
+    ensures gives { MatchOption result
+        ((is_fit (conversion_of content) (take n source.now) ≡ false) ⊎ (length to.old < field_room (conversion_of content) n))
+        (λ made. IsField (conversion_of content) (take n source.now) to.new made) }
 {
     if to.len() < field_room(content, n) {
         return write_tight(source, n, to, content);

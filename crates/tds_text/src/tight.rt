@@ -1,8 +1,8 @@
 // The field of text where there isn't room for any of that length: text of ASCII without quotes, for which there is a byte for each
 // character and a few more, and other text if any has room from some place on.
-ghost use Rattle.std.specs.Prelude.{◌≡◌, ◌+◌, ◌*◌, ◌/◌, ◌%◌, ◌≤◌, length, take, true, IfSome, Some};
+ghost use Rattle.std.specs.Prelude.{◌≡◌, ◌+◌, ◌*◌, ◌/◌, ◌%◌, ◌≤◌, length, take, true, IfSome};
 ghost use Rattle.tds_text.specs.Conversion.{Utf16Text, Utf8Text, Windows1252Text};
-ghost use Rattle.tds_text.specs.Fields.{FieldWritten, conversion_of};
+ghost use Rattle.tds_text.specs.Fields.{IsField, conversion_of};
 ghost use Rattle.tds_text.specs.Plain.{ArePlain, LiesIn};
 ghost use Rattle.tds_text.specs.Utf16 as utf16;
 
@@ -53,8 +53,7 @@ fn convert_utf16(bytes: &[u8], to: &mut [u8]) -> Option<usize>
 #[tactic(auto, using(crate::proofs::QuotedFields::quoted, std::proofs::lemmas::Grind::common_steps))]
 fn write_utf16(source: &[u8], n: usize, to: &mut [u8]) -> Option<usize>
     requires within { n ≤ length source.now }
-    ensures most { IfSome result (λ made. made + 2 ≤ length to.old) }
-    ensures field { IfSome result (λ made. FieldWritten Utf16Text (take n source.now) to.new (Some made)) }
+    ensures { IfSome result (λ made. IsField Utf16Text (take n source.now) to.new made) }
 {
     if n % 2 == 1 || n < WIDE || to.len() < n / 2 + SPARE {
         return None;
@@ -92,8 +91,7 @@ fn put_all_plain(bytes: &[u8], source: &[u8], to: &mut [u8]) -> bool
 #[tactic(auto, using(crate::proofs::QuotedFields::quoted, crate::proofs::Singles::plain_text, std::proofs::lemmas::Grind::common_steps))]
 fn write_windows_1252(source: &[u8], n: usize, to: &mut [u8]) -> Option<usize>
     requires within { n ≤ length source.now }
-    ensures most { IfSome result (λ made. made + 2 ≤ length to.old) }
-    ensures field { IfSome result (λ made. FieldWritten Windows1252Text (take n source.now) to.new (Some made)) }
+    ensures { IfSome result (λ made. IsField Windows1252Text (take n source.now) to.new made) }
 {
     if to.len() < n + SPARE {
         return None;
@@ -110,8 +108,7 @@ fn write_windows_1252(source: &[u8], n: usize, to: &mut [u8]) -> Option<usize>
 #[tactic(auto, using(crate::proofs::QuotedFields::quoted, std::proofs::lemmas::Grind::common_steps))]
 fn write_utf8(source: &[u8], n: usize, to: &mut [u8]) -> Option<usize>
     requires within { n ≤ length source.now }
-    ensures most { IfSome result (λ made. made + 2 ≤ length to.old) }
-    ensures field { IfSome result (λ made. FieldWritten Utf8Text (take n source.now) to.new (Some made)) }
+    ensures { IfSome result (λ made. IsField Utf8Text (take n source.now) to.new made) }
 {
     if to.len() < n + SPARE {
         return None;
@@ -131,8 +128,7 @@ fn write_utf8(source: &[u8], n: usize, to: &mut [u8]) -> Option<usize>
 #[inline(never)]
 pub(crate) fn write_tight(source: &[u8], n: usize, to: &mut [u8], content: Content) -> Option<usize>
     requires within { n ≤ length source.now }
-    ensures most { IfSome result (λ made. made + 2 ≤ length to.old) }
-    ensures field { IfSome result (λ made. FieldWritten (conversion_of content) (take n source.now) to.new (Some made)) }
+    ensures { IfSome result (λ made. IsField (conversion_of content) (take n source.now) to.new made) }
 {
     match content {
         Content::Binary => None,

@@ -1,15 +1,16 @@
 use Rattle.tds_text.proofs as N
+use N.fields.write_binary.Goals as goal
 use N.{◌≡◌, ◌∙◌, ℕ, ◌+◌, ◌-◌, ◌*◌, ◌≤◌, [], ◌∷◌}
 
 marked : (to : N.List ℕ) → 2 ≤ N.length to → N.take 2 (N.slice_set (N.slice_set to 0 48) 1 120) ≡ 48 ∷ 120 ∷ []
 marked (a ∷ b ∷ to) h = N.refl
 marked to h = grind N.arith
 
-pub returns-clause-field : N.fields.write_binary.Goals.returns-clause-field
-returns-clause-field = grind (N.arith, marked, N.take-append-add, N.take-append-le, N.take_all)
+pub returns : goal.returns
+returns = grind (N.arith, N.common_steps, marked, N.take-append-add, N.take-append-le, N.take_all)
 
-pub returns-then-to-clause-field : N.fields.write_binary.Goals.returns-then-to-clause-field
-returns-then-to-clause-field c =
+pub returns-then-to : goal.returns-then-to
+returns-then-to c =
     let n = c.args.n in
     let new = c.put_digits.new.to in
     let source = c.args.source.now in
@@ -18,4 +19,4 @@ returns-then-to-clause-field c =
     let within : n ≤ N.length source = omega N.arith in
     let digits : N.take (2 * n) new ≡ N.encode_lower (N.take n source) = N.sym (N.take-take (2 * n) 32 new few) ∙ N.ap (N.take (2 * n)) c.put_digits.ensures
     ∙ N.ap (λ (k : ℕ). N.take (2 * n) (N.encode_lower (N.take k source))) (N.sym all) ∙ N.SingleLaws.hex-front n (16 - n) source within in
-    grind (N.arith, marked, N.take-append-add, N.take-append-le, digits)
+    grind (N.arith, N.common_steps, marked, N.take-append-add, N.take-append-le, digits)
