@@ -1,4 +1,4 @@
 // What `--version` says. `make digest` writes the digest, and `make lint` holds it to the sources.
 
 /// The version of the release, and the first 16 hexadecimal digits of the SHA-256 of the program's sources.
-pub(crate) const VERSION: &str = "1.0.0 (sources cfe5661e9ea56c26)";
+pub(crate) const VERSION: &str = "1.0.0 (sources ebd2404fb6b46ab5)";

@@ -2,8 +2,9 @@
 use Rattle.tds_csv.proofs as N
 use N.{◌≡◌, ◌∙◌, ◌↔◌, ℕ, ◌+◌, ◌-◌, ◌<◌, ◌≤◌, List, [], ◌++◌, length, take, drop, Result, Ok, Err, ap, arith, emit, JoinFault, Odd, BadText, Sink, PushesPiece}
 use N.{TakesUpTo, held}
+use T.JoiningLemmas.{emits}
 use T.OpenTexts.{after_kept}
-use T.Utf8Laws.{joins_utf8, emits}
+use T.Utf8Laws.{joins_utf8}
 use Rattle.tds_text.specs.Utf8.{Begins, rest, text}
 use Rattle.tds_text.proofs as T
 
@@ -30,7 +31,11 @@ halves : (kept part : List ℕ) {mid : List ℕ} (more : List ℕ) → mid ≡ r
     × (rest (kept ++ (part ++ more)) ≡ rest (mid ++ more)) × (Begins (kept ++ (part ++ more)) ↔ Begins (mid ++ more))
 halves kept part more is =
     let all = kept ++ part in
-    rw (is, ← N.append_assoc kept part more) (emits all more, T.Utf8Laws.rest-append all more, (joins_utf8.inward all more, joins_utf8.outward all more))
+    rw (is, ← N.append_assoc kept part more) (
+      emits T.Utf8Laws.fronts all more,
+      T.Utf8Laws.rest-append all more,
+      (joins_utf8.inward all more, joins_utf8.outward all more),
+    )
 
 -- what is withheld begins a text
 pub rest_begins : {new : List ℕ} (bytes : List ℕ) → new ≡ rest bytes → Begins bytes → Begins new

@@ -5,7 +5,7 @@ pub use Rattle.std.proofs.Common.{Result, Ok, Err, MatchResult, ◌^◌, OnErr, 
 pub use Rattle.std.proofs.KnownBytes.{Appends-nil}
 pub use Rattle.std.proofs.Math.Seq.{take-append-add, drop-append-add, take-append_seam, drop-append_seam}
 pub use Rattle.std.proofs.lemmas.Grind.{common_steps}
-pub use Rattle.std.proofs.lemmas.List.{take-append-le, take-append-drop, take-take, take_at, drop-append-le, append_cancel_left}
+pub use Rattle.std.proofs.lemmas.List.{take-append-le, take-append-drop, take-take, take_at, drop-append-le, append_cancel_left, nil_from_length}
 pub use Rattle.std.proofs.lemmas.Str.{IsUtf8-nil, encode_same, utf8_valid_len-IsUtf8, IsUtf8-append, IsUtf8-encode}
 pub use Rattle.std.specs.Char.{encode_utf8, IsScalar}
 pub use Rattle.std.specs.Io.KnownBytes.{Appends, append_known}

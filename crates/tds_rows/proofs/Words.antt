@@ -38,7 +38,7 @@ pub use Rattle.tds_cells.specs.declared.row_format.RowFormat.{RowFormat}
 pub use Rattle.tds_text.proofs.Words.{cases_lt}
 pub use Rattle.tds_text.proofs.OpenTexts.{begun_front, open_closes, unfit_adds_none, open_grows}
 pub use Rattle.tds_text.proofs.ConversionLaws.{no_data_is_fit, joins_by_name, begun_by_test, fit_by_test}
-pub use Rattle.tds_text.proofs.Utf16Steps.{nil_of_length}
+pub use Rattle.std.proofs.lemmas.List.{nil_from_length}
 pub use Rattle.tds_text.specs.Conversion.{is_begun, IsFit, is_quoted, Conversion, BeginsData, Utf16Text, Suits, is_fit, long_field, unit, conversion_rest}
 pub use Rattle.tds_text.specs.Conversion.{closing, HexDigits, Windows1252Text, open_field, Utf8Text, conversion_text}
 pub use Rattle.tds_text.specs.Quoting.{null_field, joined, after_comma, quote, in_line, binary_mark, end_after}

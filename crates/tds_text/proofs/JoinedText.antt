@@ -77,7 +77,7 @@ module _ (bytes source : List ℕ) (at : ℕ) (lies : N.LiesIn bytes source) (th
   text_of : (k : ℕ) → k ≤ n → ((j : ℕ) → k ≡ suc j → is_lead (get_or (drop at source) j 0) ≡ false)
       → IsUtf8 (take k (drop at bytes)) × (doubled (take k (drop at bytes)) ≡ take k (drop at bytes))
   text_of k less last =
-      rw (N.LaneMasks.alike bytes source at k lies (omega (arith, most)) (omega arith), N.take-take k 16 (drop at source) (omega (arith, most)))
+      rw (N.LaneMasks.front_alike bytes source at k 16 lies (omega (arith, most)) (omega arith), N.take-take k 16 (drop at source) (omega (arith, most)))
       (joined_text k (drop at source) (grind (arith, joined_at)) begins last)
 
   last_at : (k : ℕ) → n ≡ suc k → get_or (drop at source) k 0 ≡ get_or source (at + n - 1) 0

@@ -1,6 +1,6 @@
 -- Lemmas that the laws of each conversion share.
 use Rattle.tds_text.proofs as N
-use N.{Leads, List, [], arith, drop, emit, length, take, ℕ, ◌++◌, ◌+◌, ◌-◌, ◌≡◌, ◌≤◌}
+use N.{Leads, List, [], ap, arith, drop, emit, length, take, ℕ, ◌++◌, ◌+◌, ◌-◌, ◌≡◌, ◌≤◌}
 
 -- the quotes of two pieces are doubled in each
 pub doubled-append : (x y : List ℕ) → N.doubled (x ++ y) ≡ N.doubled x ++ N.doubled y
@@ -9,6 +9,24 @@ doubled-append = N.flat_map-append N.doubled_byte
 -- what stands before the rest is settled
 pub settled_front : (rest : List ℕ → List ℕ) (bytes front : List ℕ) → bytes ≡ front ++ rest bytes → N.settled rest bytes ≡ front
 settled_front = grind (arith, N.length-append, N.take_at)
+
+-- ---- conversions of which the bytes before the rest have a text of their own
+
+pub record HasFronts (rest text front : List ℕ → List ℕ) : Type 0 where
+  pub whole : (a : List ℕ) → a ≡ front a ++ rest a
+  pub front_is : (a b : List ℕ) → front (a ++ b) ≡ front a ++ front (rest a ++ b)
+  pub more : (a b : List ℕ) → text (front a ++ front (rest a ++ b)) ≡ text (front a) ++ text (front (rest a ++ b))
+  pub last : (a : List ℕ) → text (front a ++ rest a) ≡ text (front a) ++ text (rest a)
+
+module _ {rest text front : List ℕ → List ℕ} (fronts : HasFronts rest text front) where
+  pub emit-front : (a : List ℕ) → emit rest text a ≡ text (front a)
+  emit-front a = ap text (settled_front rest a (front a) (fronts.whole a))
+
+  pub emits : (a b : List ℕ) → emit rest text (a ++ b) ≡ emit rest text a ++ emit rest text (rest a ++ b)
+  emits a b = rw (emit-front (a ++ b), emit-front a, emit-front (rest a ++ b), fronts.front_is a b) (fronts.more a b)
+
+  pub ends : (a : List ℕ) → text a ≡ emit rest text a ++ text (rest a)
+  ends a = cc (fronts.whole a, fronts.last a, emit-front a)
 
 -- ---- the fixed text of some bytes, put a part after the other
 

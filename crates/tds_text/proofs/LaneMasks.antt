@@ -48,9 +48,6 @@ front_alike bytes source at n w lies few within =
     let all : at + k ≡ length bytes = omega arith in
     rw (← lies.front, ← all, N.drop-take at k source, N.take-take n k (drop at source) (omega arith), N.take-take n w (drop at source) few) refl
 
-pub alike : (bytes source : List ℕ) (at n : ℕ) → N.LiesIn bytes source → n ≤ 16 → at + n ≤ length bytes → take n (drop at bytes) ≡ take n (chunk at 16 source)
-alike bytes source at n lies few within = front_alike bytes source at n 16 lies few within
-
 -- two functions that are the same on units
 pub same_map : {A : Type 0} {f g : ℕ → A} → ((u : ℕ) → u < 65536 → f u ≡ g u) → (us : List ℕ) → Each1 (Fits N.w16) us → map f us ≡ map g us
 same_map same [] fits = refl

@@ -66,11 +66,11 @@ pub unfit_adds_none : (c : Conversion) (d : List ℕ) (x : ℕ) → N.is_fit c (
 unfit_adds_none N.HexDigits d x unfit = cc
 unfit_adds_none N.Utf16Text d x unfit =
     let same = odd_front d x (grind arith) in
-    rw (utf16_laws.emit-front, utf16_laws.emit-front, same) refl
+    rw (N.JoiningLemmas.emit-front utf16_laws.fronts, N.JoiningLemmas.emit-front utf16_laws.fronts, same) refl
 unfit_adds_none N.Windows1252Text d x unfit = cc
 unfit_adds_none N.Utf8Text d x unfit =
     let same = unfit_front d x (grind (arith, N.is_utf8-from_IsUtf8)) in
-    rw (utf8_laws.emit-front, utf8_laws.emit-front, same) refl
+    rw (N.JoiningLemmas.emit-front utf8_laws.fronts, N.JoiningLemmas.emit-front utf8_laws.fronts, same) refl
 
 -- a piece grows the open field by the text of what was withheld and the piece
 pub open_grows : (c : Conversion) (d e : List ℕ) → N.BeginsData c (d ++ e)

@@ -6,23 +6,12 @@ use Rattle.tds_text.specs.Utf8.{Begins, rest, text}
 use Rattle.tds_text.specs.Utf8Scan.{Converts, ConvertsBegun, IsScan}
 
 -- the next two bytes, and the next three
-two_next : (xs : List ℕ) → 2 ≤ length xs → take 2 xs ≡ get_or xs 0 0 ∷ get_or xs 1 0 ∷ []
-two_next = grind arith
-
-three_next : (xs : List ℕ) → 3 ≤ length xs → take 3 xs ≡ get_or xs 0 0 ∷ get_or xs 1 0 ∷ get_or xs 2 0 ∷ []
-three_next = grind arith
-
 pub two_there : (bytes : List ℕ) (at : ℕ) → at + 2 ≤ length bytes → take 2 (drop at bytes) ≡ get_or bytes at 0 ∷ get_or bytes (at + 1) 0 ∷ []
-two_there = grind (arith, two_next, N.length-drop, N.get_or-drop)
+two_there = grind (arith, N.drop_more)
 
 pub three_there : (bytes : List ℕ) (at : ℕ) → at + 3 ≤ length bytes
     → take 3 (drop at bytes) ≡ get_or bytes at 0 ∷ get_or bytes (at + 1) 0 ∷ get_or bytes (at + 2) 0 ∷ []
-three_there = grind (arith, three_next, N.length-drop, N.get_or-drop)
-
--- three bytes were put one after the other
-pub three_put : (old : List ℕ) {one two three next : List ℕ} (a b d : ℕ) → one ≡ old ++ a ∷ [] → two ≡ one ++ b ∷ [] → three ≡ two ++ d ∷ []
-    → next ≡ a ∷ b ∷ d ∷ [] → three ≡ old ++ next
-three_put = grind (arith, N.append_assoc)
+three_there = grind (arith, N.drop_more)
 
 -- a text after a text
 whole_after : (bytes : List ℕ) (at n : ℕ) → IsUtf8 (take at bytes) → IsUtf8 (take n (drop at bytes)) → IsUtf8 (take (at + n) bytes)
@@ -61,7 +50,7 @@ module _ (a b : List ℕ) (whole : IsUtf8 a) where
   none_left = grind (arith, N.utf8_valid_len-IsUtf8, N.drop_of_length-le)
 
   whole_emits : N.emit rest text (a ++ b) ≡ text a ++ N.emit rest text b
-  whole_emits = grind (arith, N.Utf8Laws.emits, none_left, N.take_all)
+  whole_emits = grind (arith, N.JoiningLemmas.emits N.Utf8Laws.fronts, none_left, N.take_all)
 
   whole_keeps : rest (a ++ b) ≡ rest b
   whole_keeps = N.Utf8Laws.rest-append a b ∙ N.ap (λ l. rest (l ++ b)) none_left

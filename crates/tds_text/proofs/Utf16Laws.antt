@@ -78,19 +78,14 @@ texts = grind (arith, chars-apart, N.map-append, N.encodes-append, N.JoiningLemm
 text-front : (a b : List ℕ) → Apart (units (front a)) (units b) → text (front a ++ b) ≡ text (front a) ++ text b
 text-front a b h = ap (λ us. doubled (N.encode_utf8_all (N.utf16_lossy_chars us))) (seam a b).units_are ∙ texts (units (front a)) (units b) h
 
-pub emit-front : (a : List ℕ) → emit rest text a ≡ text (front a)
-emit-front a = ap text (N.JoiningLemmas.settled_front rest a (front a) (seam a []).whole)
-
-emits : (a b : List ℕ) → emit rest text (a ++ b) ≡ emit rest text a ++ emit rest text (rest a ++ b)
+pub fronts : N.JoiningLemmas.HasFronts rest text front
 unfolding starts_low
-emits a b = rw (emit-front, emit-front a, emit-front (rest a ++ b), (seam a b).front_is) (text-front a (front (rest a ++ b))
-    (Apart-front a (units (front (rest a ++ b))) (grind (arith, high_is_not_low))))
-
-ends : (a : List ℕ) → text a ≡ emit rest text a ++ text (rest a)
-unfolding starts_low
-ends a =
-    let split = text-front a (rest a) (Apart-front a (units (rest a)) (grind (arith, high_is_not_low))) in
-    cc (emit-front a, (seam a []).whole)
+fronts = record {
+  whole = λ a. (seam a []).whole;
+  front_is = λ a b. (seam a b).front_is;
+  more = λ a b. text-front a (front (rest a ++ b)) (Apart-front a (units (front (rest a ++ b))) (grind (arith, high_is_not_low)));
+  last = λ a. text-front a (rest a) (Apart-front a (units (rest a)) (grind (arith, high_is_not_low)));
+}
 
 pub short : (a : List ℕ) → length (rest a) ≤ 3
 short a = (seam a []).few
@@ -101,4 +96,14 @@ parts bytes = let whole = (seam bytes []).even in omega (arith, ap length (seam 
 
 -- text in UTF-16 may come in pieces
 pub joins_utf16 : N.JoinsPieces IsFit (λ _. ⊤) rest text
-joins_utf16 = grind (arith, emits, seam, short, ends, parts)
+joins_utf16 = record {
+  emits = λ a b _. N.JoiningLemmas.emits fronts a b;
+  keeps = λ a b _. (seam a b).rest_is;
+  short = λ a _. short a;
+  ends = λ a _. N.JoiningLemmas.ends fronts a;
+  fit_rest = λ a whole. N.sym (parts a) ∙ whole;
+  fit_whole = λ a _ whole. parts a ∙ whole;
+  front = λ _ _ _. tt;
+  inward = λ _ _ _. tt;
+  outward = λ _ _ _. tt;
+}

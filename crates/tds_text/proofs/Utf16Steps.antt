@@ -2,8 +2,8 @@
 use Rattle.tds_text.proofs as N
 use N.{seam, List, [], ap, arith, drop, emit, false, get_or, is_low_surrogate, length, refl, take, true, unwrap_or, ℕ, ◌%◌, ◌&&◌, ◌*◌, ◌++◌, ◌+◌, ◌-◌, ◌<◌}
 use N.{◌||◌, ◌∙◌, ◌∷◌, ◌≡◌, ◌≤◌, ◌⊎◌}
-use N.JoiningLemmas.{doubled-append, Leads-none, Leads-seam, emit_held}
-use N.Utf16Laws.{emit-front, front, front_step, joins_utf16, rest_step, short, starts_low}
+use N.JoiningLemmas.{doubled-append, emit-front, Leads-none, Leads-seam, emit_held}
+use N.Utf16Laws.{front, fronts, front_step, joins_utf16, rest_step, short, starts_low}
 use Rattle.std.specs.Char.Utf16.{utf16_chars}
 use Rattle.tds_text.specs.Utf16.{characters, is_high, rest, text, units}
 use Rattle.tds_text.specs.Utf16Next.{IsNext}
@@ -15,9 +15,6 @@ text_nil = refl
 pub characters_nil : characters [] ≡ []
 unfolding utf16_chars
 characters_nil = refl
-
-pub nil_of_length : (xs : List ℕ) → length xs ≡ 0 → xs ≡ []
-nil_of_length = N.nil_from_length
 
 -- a unit that isn't the first of a pair
 chars_one : (u : ℕ) (us : List ℕ) → (N.is_high_surrogate u && starts_low us) ≡ false
@@ -37,7 +34,7 @@ spells_pair = grind arith
 -- the text of a front, from its characters
 emits_by : (bytes more : List ℕ) (code : ℕ) → characters (front bytes) ≡ N.encode_utf8 code ++ characters (front more)
     → emit rest text bytes ≡ N.doubled (N.encode_utf8 code) ++ emit rest text more
-emits_by = grind (arith, emit-front, doubled-append)
+emits_by = grind (arith, emit-front fronts, doubled-append)
 
 -- a unit that is no high surrogate
 pub next_one : (low high : ℕ) (bytes : List ℕ) (code : ℕ) → is_high low high ≡ false → unwrap_or (N.lone_unit_char (low + 256 * high)) 0xFFFD ≡ code
@@ -53,14 +50,6 @@ lone_other = grind arith
 
 pub lone_half : (u : ℕ) → (N.is_high_surrogate u ≡ true) ⊎ (is_low_surrogate u ≡ true) → unwrap_or (N.lone_unit_char u) 0xFFFD ≡ 0xFFFD
 lone_half = grind arith
-
--- a surrogate that is no low one
-pub high_half : (u : ℕ) → (N.is_high_surrogate u || is_low_surrogate u) ≡ true → is_low_surrogate u ≡ false → N.is_high_surrogate u ≡ true
-high_half = grind arith
-
--- a low surrogate is no high one
-pub not_high : (u : ℕ) → is_low_surrogate u ≡ true → N.is_high_surrogate u ≡ false
-not_high = grind arith
 
 -- a high surrogate before a unit that is no low one
 next_alone : (low high low' high' : ℕ) (bytes : List ℕ) → is_high low high ≡ true → is_low_surrogate (low' + 256 * high') ≡ false
@@ -135,34 +124,22 @@ ends_held {bytes} {to} {used} {made} before held =
       leaves = grind (arith, N.common_steps, short);
     }
 
--- nothing comes after this place
-pub ends_there : {bytes to : List ℕ} {used made : ℕ} → N.Converts bytes to used made → used ≡ length bytes → Ended bytes to used made
-ends_there = grind (arith, nil_of_length, N.length-drop, ends_held)
-
--- and the data is whole
-pub whole_there : {bytes to : List ℕ} {used made : ℕ} → N.Converts bytes to used made → used ≡ length bytes → length bytes % 2 ≡ 0
-    → take made to ≡ text bytes
-whole_there {bytes} {to} {used} before all whole =
-    let x = ends_there before all in
-    let none : drop used bytes ≡ [] = grind (arith, nil_of_length, N.length-drop) in
-    let left : text (rest bytes) ≡ [] = grind (arith, text_nil) in
-    let emitted = emit rest text bytes in
-    x.emits ∙ N.sym (joins_utf16.ends bytes whole ∙ ap (λ l. emitted ++ l) left ∙ N.append-nil emitted)
-
--- and the text of whole data goes on with that of what is left of them
-pub whole_after : {bytes to : List ℕ} {used made : ℕ} → N.Converts bytes to used made → length bytes % 2 ≡ 0 → used % 2 ≡ 0
-    → text bytes ≡ take made to ++ text (drop used bytes)
-whole_after {bytes} {to} {used} before whole even =
-    let left = drop used bytes in
-    let halves : length left % 2 ≡ 0 = grind (arith, N.length-drop, before.within, whole, even) in
-    grind (arith, joins_utf16.ends bytes whole, joins_utf16.ends left halves, before.leads.emits, before.leads.keeps, N.append_assoc)
-
 -- no whole unit does
 few_held : (xs : List ℕ) → length xs ≤ 1 → rest xs ≡ xs
 few_held = grind arith
 
 pub ends_short : {bytes to : List ℕ} {used made : ℕ} → N.Converts bytes to used made → length bytes < used + 2 → Ended bytes to used made
 ends_short = grind (arith, ends_held, few_held, N.length-drop)
+
+-- the text of whole data goes on with that of what is left of them
+pub whole_leads : {bytes more out : List ℕ} → N.Leads rest text bytes more out → length bytes % 2 ≡ 0 → length more % 2 ≡ 0 → text bytes ≡ out ++ text more
+whole_leads {bytes} {more} leads whole even =
+    grind (arith, joins_utf16.ends bytes whole, joins_utf16.ends more even, leads.emits, leads.keeps, N.append_assoc)
+
+-- and ends where nothing is
+pub all_led : {bytes more out : List ℕ} → N.Leads rest text bytes more out → length bytes % 2 ≡ 0 → length more ≡ 0 → out ≡ text bytes
+all_led {bytes} {more} {out} leads whole none =
+    N.sym (whole_leads leads whole (omega arith) ∙ ap (λ l. out ++ text l) (N.nil_from_length more none) ∙ rw text_nil (N.append-nil out))
 
 -- ---- withheld bytes of text in UTF-16, with the first ones of a piece
 

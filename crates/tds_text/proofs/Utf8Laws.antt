@@ -2,7 +2,7 @@
 use Rattle.tds_text.proofs as N
 use N.{Bool, IsUtf8, List, None, Some, [], ap, arith, cases_lt, cond, emit, encode_utf8, false, get_or, inl, inr, is_utf8, length, nat_tests, of3, of4, refl}
 use N.{second_byte_max, second_byte_min, suc, take, true, zero, ℕ, ◌*◌, ◌++◌, ◌+◌, ◌-◌, ◌<◌, ◌∙◌, ◌∷◌, ◌≡◌, ◌≤◌, ◌⊎◌}
-use N.JoiningLemmas.{doubled-append, settled_front}
+use N.JoiningLemmas.{HasFronts, doubled-append, emit-front, emits, ends, settled_front}
 use Rattle.std.specs.Str.Lossy.{utf8_error_len, utf8_valid_len}
 use Rattle.tds_text.specs.Utf8.{Begins, IsFit, rest, text}
 
@@ -80,14 +80,13 @@ front-append = grind (arith, valid_len-append, regrouped, N.take-append-add)
 pub rest-append : (a b : List ℕ) → rest (a ++ b) ≡ rest (rest a ++ b)
 rest-append = grind (arith, valid_len-append, regrouped, N.drop-append-add)
 
-pub emit-front : (a : List ℕ) → emit rest text a ≡ text (front a)
-emit-front a = ap text (settled_front rest a (front a) (front-rest a))
-
-pub emits : (a b : List ℕ) → emit rest text (a ++ b) ≡ emit rest text a ++ emit rest text (rest a ++ b)
-emits = grind (arith, emit-front, front-append, doubled-append)
-
-ends : (a : List ℕ) → text a ≡ emit rest text a ++ text (rest a)
-ends a = cc (front-rest a, doubled-append (front a) (rest a), emit-front a)
+pub fronts : HasFronts rest text front
+fronts = record {
+  whole = front-rest;
+  front_is = front-append;
+  more = λ a b. doubled-append (front a) (front (rest a ++ b));
+  last = λ a. doubled-append (front a) (rest a);
+}
 
 -- the first bytes, the whole characters among them
 take-front : (bytes : List ℕ) (n : ℕ) → take (utf8_valid_len bytes + n) bytes ≡ front bytes ++ take n (rest bytes)
@@ -139,10 +138,10 @@ seam = grind (arith, regrouped, N.append_assoc)
 -- text in UTF-8 may come in pieces
 pub joins_utf8 : N.JoinsPieces IsFit Begins rest text
 joins_utf8 = record {
-  emits = λ a b _. emits a b;
+  emits = λ a b _. emits fronts a b;
   keeps = λ a b _. rest-append a b;
   short = short;
-  ends = λ bytes _. ends bytes;
+  ends = λ bytes _. ends fronts bytes;
   fit_rest = λ bytes u. after_text (front bytes) (rest bytes) (front_is bytes) (rw (← front-rest bytes) u);
   fit_whole = λ bytes _ u. rw (front-rest bytes) (N.IsUtf8-append (front bytes) (rest bytes) (front_is bytes) u);
   front = grind (arith, N.append_assoc);
@@ -190,19 +189,14 @@ four_bytes : (a b d w : ℕ) → 240 ≤ a → a ≤ 244 → second_byte_min a �
     → IsUtf8 (a ∷ b ∷ d ∷ w ∷ [])
 four_bytes a b d w l u lo hi dl dh wl wh = N.of_four (a ∷ b ∷ d ∷ w ∷ []) 0 (omega arith) l (grind arith) (dl, dh) (wl, wh) (grind arith)
 
-Completes : List ℕ → Type 0
-Completes r = (more : List ℕ) × IsUtf8 (r ++ more)
-
 -- a first byte of three or four, and the next two
-three_complete : (a b d : ℕ) → 224 ≤ a → a ≤ 244 → second_byte_min a ≤ b → b ≤ second_byte_max a → 128 ≤ d → d < 192 → Completes (a ∷ b ∷ d ∷ [])
-unfolding Completes
+three_complete : (a b d : ℕ) → 224 ≤ a → a ≤ 244 → second_byte_min a ≤ b → b ≤ second_byte_max a → 128 ≤ d → d < 192 → Begins (a ∷ b ∷ d ∷ [])
 three_complete a b d l h lo hi dl dh = elim (cases_lt a 240) [
   | inl three ↦ grind (arith, three_bytes)
   | inr four ↦ (128 ∷ [], four_bytes a b d 128 four h lo hi dl dh (omega arith) (omega arith))
 ]
 
-one_completes : (a : ℕ) → 194 ≤ a → a ≤ 244 → Completes (a ∷ [])
-unfolding Completes
+one_completes : (a : ℕ) → 194 ≤ a → a ≤ 244 → Begins (a ∷ [])
 one_completes a l h =
     let b = second_byte_min a in
     let most : b ≤ second_byte_max a = grind arith in
@@ -219,14 +213,13 @@ more_than_two a b r l lo hi none = elim (cases_lt a 224) [
   | inr more ↦ more
 ]
 
-two_complete : (a b : ℕ) → 194 ≤ a → a ≤ 244 → second_byte_min a ≤ b → b ≤ second_byte_max a → NoText (a ∷ b ∷ []) → Completes (a ∷ b ∷ [])
-unfolding Completes
+two_complete : (a b : ℕ) → 194 ≤ a → a ≤ 244 → second_byte_min a ≤ b → b ≤ second_byte_max a → NoText (a ∷ b ∷ []) → Begins (a ∷ b ∷ [])
 two_complete a b l h lo hi none = let x = three_complete a b 128 (more_than_two a b [] l lo hi none) h lo hi (omega arith) (omega arith) in
     (128 ∷ x.0, x.1)
 
 -- what std finds no fault in can be completed
-completes : (r : List ℕ) → NoText r → utf8_error_len r ≡ None → Completes r
-unfolding Completes utf8_error_len
+completes : (r : List ℕ) → NoText r → utf8_error_len r ≡ None → Begins r
+unfolding utf8_error_len
 completes [] none e = ([], N.IsUtf8-nil)
 completes (a ∷ []) none e = grind (arith, one_completes)
 completes (a ∷ b ∷ []) none e = grind (arith, two_complete, nat_tests)
@@ -235,7 +228,6 @@ completes (a ∷ b ∷ d ∷ w ∷ r) none e = grind (arith, nat_tests)
 
 -- where std finds no fault in the rest, some text begins so
 pub none_begins : (bytes : List ℕ) → utf8_error_len (rest bytes) ≡ None → Begins bytes
-unfolding Completes
 none_begins bytes e =
     let more = completes (rest bytes) (no_text bytes) e in
     (more.0, rw regrouped (N.IsUtf8-append (front bytes) (rest bytes ++ more.0) (front_is bytes) more.1))
@@ -293,7 +285,19 @@ stops bytes k e =
     let part = rest_after bytes j (omega arith) in
     let next : rest (take ((v + j) + 1) bytes) ≡ take (j + 1) (rest bytes) = ap (λ n. rest (take n bytes)) {y = v + (j + 1)} (omega arith)
     ∙ rest_after bytes (j + 1) (omega arith) in
-    grind (arith, take-front, front, front-rest, N.length-drop, N.utf8_valid_len_le, none_begins, begins_none, settled_front, emit-front)
+    grind (
+      arith,
+      take-front,
+      front,
+      front-rest,
+      N.length-drop,
+      N.utf8_valid_len_le,
+      none_begins,
+      begins_none,
+      settled_front,
+      emit-front fronts bytes,
+      emit-front fronts (take (v + j) bytes),
+    )
 
 pub stops_at : (bytes : List ℕ) (whole k good : ℕ) → whole ≡ utf8_valid_len bytes → utf8_error_len (N.drop whole bytes) ≡ Some k
     → good ≡ cond (is_first (get_or bytes whole 0)) k 0 → N.StopsAt bytes whole (whole + good)

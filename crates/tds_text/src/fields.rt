@@ -154,7 +154,8 @@ fn write_windows_1252(source: &[u8], n: usize, to: &mut [u8]) -> usize
 fn write_utf8(source: &[u8], n: usize, to: &mut [u8]) -> Option<usize>
     requires within { n ≤ length source.now }
     requires room { field_room Utf8Text n ≤ length to.old }
-    ensures { MatchOption result (is_fit Utf8Text (take n source.now) ≡ false) (λ made. IsField Utf8Text (take n source.now) to.new made) }
+    ensures { MatchOption result (is_fit Utf8Text (take n source.now) ≡ false)
+        (λ made. IsField Utf8Text (take n source.now) to.new made) }
 {
     to[0] = QUOTE;
     let made = utf8::convert_whole(&source[..n], source, &mut to[1..])?;

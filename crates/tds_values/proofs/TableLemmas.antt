@@ -1,7 +1,7 @@
 -- The tables of digits.
 use Rattle.tds_values.proofs.Words.{◌≡◌, ℕ, zero, suc, ◌+◌, ◌*◌, ◌/◌, ◌%◌, ◌^◌, ◌<◌, ◌==◌, true, refl, ap, ◌∙◌, arith, List, [], ◌++◌, length, take, drop}
-use Rattle.tds_values.proofs.Words.{codes, decimal, get_or, agree_below, agree_below_at, eqb-true, hex_digit, lower, lower_digits, slice_index, add-zero, take_all}
-use Rattle.tds_values.proofs.Words.{length-append, nat_lt, ◌≤◌, ◌∷◌, if◌then◌else◌}
+use Rattle.tds_values.proofs.Words.{codes, decimal, get_or, agree_below, agree_below_at, eqb-true, hex_digit, lower, lower_digits, slice_index}
+use Rattle.tds_values.proofs.Words.{add-zero, take_all, length-append, nat_lt, ◌≤◌, ◌∷◌, if◌then◌else◌}
 use Rattle.tds_values.proofs.Words.{take-append-le, take-append-add, take-take, length-take-le, last_digits, DAYS, FOUR_DIGITS, MINUTES, SMALL_NUMBERS}
 use Rattle.tds_values.proofs.DigitLemmas.{decimal_last}
 use Rattle.tds_values.proofs.TextLengths.{length-last_digits}

@@ -118,7 +118,7 @@ fn last_text(kept: &[u8]) -> Run<4>
 impl Utf16Joiner {
     // Puts the text of the withheld bytes with three bytes of the piece, if any are withheld, and
     // returns where the text of the piece goes on.
-    #[tactic(auto, using(tds_text::proofs::Utf16Steps::nil_of_length, tds_text::proofs::Utf16Steps::none_leads))]
+    #[tactic(auto, using(std::proofs::lemmas::List::nil_from_length, tds_text::proofs::Utf16Steps::none_leads))]
     fn put_withheld<W: Write>(&self, piece: &[u8], sink: &mut Sink<'_, W>) -> Result<usize, Stop>
         requires writing { IsWriting sink.old }
         requires long { 3 ≤ length piece.now }

@@ -18,7 +18,7 @@ ended : (bytes to new : N.List ℕ) (at : ℕ) → at ≤ length bytes → lengt
     → new ≡ N.encode_lower (take (length bytes - at) (drop at bytes)) → N.put_mid (2 * at) (length to - 2 * at) to new ≡ N.encode_lower bytes
 ended bytes to new at within room front back =
     rw (
-      (N.Utf16Steps.nil_of_length (N.post_of (2 * at) (length to - 2 * at) to)
+      (N.nil_from_length (N.post_of (2 * at) (length to - 2 * at) to)
           (omega (arith, N.length-drop (length to - 2 * at) (drop (2 * at) to), N.length-drop (2 * at) to))),
       N.append-nil,
       front,

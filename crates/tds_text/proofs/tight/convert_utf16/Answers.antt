@@ -32,6 +32,7 @@ returns-clause-text c =
     let run = c.convert_mixed-run in
     let to = run.new.to in
     let more = rw (N.UsualText.rest_of) at c.convert_whole.ensures.text in
-    let all = N.Utf16Steps.whole_after run.ensures.gives.after c.requires.whole (omega N.arith) in
+    let all = N.Utf16Steps.whole_leads run.ensures.gives.after.leads c.requires.whole
+    (omega (N.arith, N.length-drop run.result.used c.args.bytes.now)) in
     let joined = take_put run.result.made (length to - run.result.made) c.convert_whole.result to c.convert_whole.new.to (omega N.arith) (omega N.arith) in
     N.sym joined ∙ N.ap (λ l. take run.result.made to ++ l) more ∙ N.sym all

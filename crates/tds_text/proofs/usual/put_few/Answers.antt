@@ -1,11 +1,11 @@
 use Rattle.tds_text.proofs as N
 use N.usual.put_few.Goals as goal
-use N.{◌≡◌, ◌∙◌}
+use N.{◌≡◌, ◌∙◌, ◌++◌}
 
 pub returns-then-n-eq2-clause-written : goal.returns-then-n-eq2-clause-written
 returns-then-n-eq2-clause-written c = grind (N.arith, N.common_steps, N.UsualText.two_there, N.append_assoc)
 
 pub returns-clause-written : goal.returns-clause-written
 returns-clause-written c =
-    N.UsualText.three_put _ _ _ _ c.put_byte-one.ensures.written c.put_byte-two.ensures.written c.put_byte.ensures.written
-    (grind (N.arith, N.UsualText.three_there))
+    N.Characters.three_more _ _ _ _ _ _ _ c.put_byte-one.ensures.written c.put_byte-two.ensures.written c.put_byte.ensures.written
+    ∙ N.ap (λ l. N.take c.args.made c.args.to.now ++ l) (N.sym (grind (N.arith, N.UsualText.three_there)))

@@ -5,4 +5,4 @@ use N.{◌∙◌, ◌++◌}
 pub returns-then-bytes-at-lt224-clause-taken : goal.returns-then-bytes-at-lt224-clause-taken
 returns-then-bytes-at-lt224-clause-taken c =
     c.put_lanes.ensures ∙ N.ap (λ x. N.take c.args.made c.args.to.now ++ x)
-    (grind (N.arith, N.LaneMasks.alike))
+    (grind (N.arith, N.LaneMasks.front_alike c.args.bytes.now c.args.source.now c.args.at c.joined_characters-n.result 16))

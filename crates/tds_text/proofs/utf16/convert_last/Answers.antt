@@ -11,7 +11,7 @@ two_left = grind (arith, joins_utf16, N.length-drop)
 -- its text is U+FFFD
 left_text : (bytes tail : List ℕ) → tail ≡ utf16.rest bytes → length tail ≡ 2 → utf16.text tail ≡ N.doubled (N.encode_utf8 0xFFFD)
 left_text bytes tail is two =
-    ap N.doubled (rw ((N.Utf16Steps.nil_of_length (N.drop 2 tail) (omega (arith, N.length-drop 2 tail))), N.Utf16Steps.characters_nil, N.append-nil) at
+    ap N.doubled (rw ((N.nil_from_length (N.drop 2 tail) (omega (arith, N.length-drop 2 tail))), N.Utf16Steps.characters_nil, N.append-nil) at
     (N.Utf16Steps.spells_held tail (omega arith) (ap (λ n. n % 2) two) (N.sym (rw (N.append-nil, N.append-nil, ← is) at (joins_utf16.keeps bytes [] tt)))))
 
 -- so the text of whole data ends with it

@@ -11,5 +11,5 @@ pub loop-at-preserved : goal.loop-at-preserved
 loop-at-preserved = grind (N.arith, N.CutText.added_more)
 
 pub returns : goal.returns
-returns c = N.CutText.stays_whole c.loop-at.invariant.added (rw (T.Utf16Steps.nil_of_length (N.drop c.loop-at.at c.args.units.now)
+returns c = N.CutText.stays_whole c.loop-at.invariant.added (rw (N.nil_from_length (N.drop c.loop-at.at c.args.units.now)
     (omega (N.arith, N.length-drop c.loop-at.at c.args.units.now))) T.Utf16Steps.characters_nil)

@@ -6,7 +6,7 @@ use N.PutParts.{none_put}
 use T.Utf16Steps.{some_leads}
 
 pub returns-then-is_empty-clause-puts : goal.returns-then-is_empty-clause-puts
-returns-then-is_empty-clause-puts g c = none_put _ (N.sym c.bytes-kept.ensures.value ∙ (T.Utf16Steps.nil_of_length _ (search N.rules))) c.requires.writing
+returns-then-is_empty-clause-puts g c = none_put _ (N.sym c.bytes-kept.ensures.value ∙ (N.nil_from_length _ (search N.rules))) c.requires.writing
 
 pub returns-clause-leads : goal.returns-clause-leads
 returns-clause-leads g c =
