@@ -57,10 +57,10 @@ class Arguments(Live):
             self.assertEqual(arguments(["--", "-N", "m"]).statements, ["-N", "m"])
 
     def test_flags_of_sqlcmd_are_refused_by_name(self) -> None:
-        for flag in ("-h -1", "-b", "-w 99", "-r1", "-v x=1", "-y 0", "-f 65001", "-s ,", "-Q x", "-G"):
+        for flag in ("-h -1", "-h-1", "-h5", "-b", "-w 99", "-r1", "-v x=1", "-y 0", "-f 65001", "-s ,", "-Q x", "-G"):
             self.refused(f"-o out {flag} 'SELECT 1'", f"{flag[:2]} ")
         came = self.query("-h")
-        self.assertEqual((came.returncode, came.stdout[:6], came.stderr), (0, b"usage:", b""))
+        self.assertEqual((came.returncode, came.stdout[:27], came.stderr), (0, b"usage: gavyreto query [-h] ", b""))
 
     def test_secrets_are_not_repeated(self) -> None:
         for words in ("--password=geheim", "--pass=geheim", "-Zgeheim", "-Pgeheim", "-P geheim", "--secret=geheim", "-xgeheim",

@@ -397,9 +397,9 @@ class Once(argparse.Action):
         setattr(namespace, self.dest, values)
 
 
-def parser_of(command: str, about: Optional[str], *, add_help: bool = True) -> argparse.ArgumentParser:
+def parser_of(command: str, about: Optional[str]) -> argparse.ArgumentParser:
     """The parser of a command's arguments; help begins with its module's docstring."""
-    return Parser(prog=f"gavyreto {command}", description=about, formatter_class=Help, add_help=add_help, allow_abbrev=False)
+    return Parser(prog=f"gavyreto {command}", description=about, formatter_class=Help, allow_abbrev=False)
 
 
 def named(text: str) -> str:

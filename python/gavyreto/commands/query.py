@@ -232,6 +232,7 @@ OF_SQLCMD = {
     "-f": "statements are read in UTF-8, and written so", "-b": "the first error ends the statements", "-r": "standard error has all lines",
     **dict.fromkeys(("-s", "-W", "-w", "-y", "-Y", "-k", "-u", "-R"), "the text is always CSV"),
 }
+HEADERS = re.compile("-h ?-?[0-9]")  # after how many rows sqlcmd repeats the names
 # The values of -N, as sqlcmd has them.
 ENCRYPTIONS = {"m": "all", "mandatory": "all", "true": "all", "o": "login", "optional": "login", "false": "login", "s": "", "strict": ""}
 
@@ -241,16 +242,6 @@ class OfSqlcmd(argparse.Action):
 
     def __call__(self, parser: argparse.ArgumentParser, namespace: argparse.Namespace, values: object, option_string: Optional[str] = None) -> NoReturn:
         parser.error(f"{option_string} isn't an option here: {self.const}")
-
-
-class HelpOfSqlcmd(argparse.Action):
-    """Prints help. The flag that sqlcmd has by this name takes a number, and is refused."""
-
-    def __call__(self, parser: argparse.ArgumentParser, namespace: argparse.Namespace, values: object, option_string: Optional[str] = None) -> NoReturn:
-        if values is not None:
-            parser.error(f"{option_string} takes nothing: the first line of a text has always the names")
-        parser.print_help()
-        parser.exit()
 
 
 def with_encryption(words: list[str]) -> list[str]:
@@ -333,14 +324,15 @@ def add_connection(add: Callable[..., object]) -> None:
 
 
 def arguments(words: list[str]) -> argparse.Namespace:
-    parser = parser_of("query", __doc__, add_help=False)
-    parser.add_argument("-h", "--help", nargs="?", action=HelpOfSqlcmd, metavar="", help="show this help message and exit")
+    parser = parser_of("query", __doc__)
     for add in (add_login, add_outputs, add_connection):
         add(parser.add_argument)
     for flag, instead in OF_SQLCMD.items():
         parser.add_argument(flag, nargs="?", action=OfSqlcmd, const=instead, help=argparse.SUPPRESS)
     add_options_of_program(parser)
     parser.add_argument("statements", metavar="STATEMENT", nargs="*")
+    if any(HEADERS.match(f"{word} {after}") for word, after in zip(words, [*words[1:], ""])):
+        parser.error("-h takes nothing: the first line of a text has always the names")
     words = with_encryption(words)
     asked = parser.parse_args(words)
     if asked.server is None:
