@@ -493,6 +493,7 @@ class Commands(Live):
         self.assertTrue(came.stdout.startswith(b'CREATE TABLE "a""b1" (\n    "id" integer NOT NULL,\n    "note" text\n);\nCREATE TABLE'))
         cases: list[tuple[list[str], bytes, int]] = [
             (["--as", "sqlite", "--table", "t", "sets.tds"], b"", 2), (["nothere"], b"", 5), ([], b"", 4), ([], answered(b"\x99"), 4), (["--as", "x"], b"", 2),
+            (["--table", "t", "sets.tds"], b"", 2),
             *((["--as", "sqlite"], answered(responses.description([responses.Column(name, "38", responses.fixed, responses.whole(4), int)]), served.done()), 2)
               for name in ("", "a\0b")),
         ]

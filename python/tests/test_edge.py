@@ -97,6 +97,10 @@ class Arguments(Live):
         ):
             self.refused(words, f"{name} stands twice")
 
+    def test_options_of_tables_alone(self) -> None:
+        for words in ("-j 4", "--retries 3"):
+            self.refused(f"{words} 'SELECT 1'", "-j and --retries need --tables FILE")
+
     def test_statements_in_utf_16(self) -> None:
         for encoding in ("utf-16", "utf-16-le"):
             with open(self.path("wide.sql"), "wb") as file:

@@ -24,7 +24,10 @@ def arguments(words: list[str]) -> argparse.Namespace:
     parser.add_argument("--as", dest="form", choices=["csv", *TABLES], default="csv", help="form of the output (default: csv)")
     parser.add_argument("--table", metavar="NAME", type=named, action=Once, help="name of the table (default: response), or SCHEMA.NAME; {} is the number of the set, from 1")
     parser.add_argument("file", metavar="FILE", nargs="?", default="-", help="the response (default, or -: standard input)")
-    return parser.parse_args(words)
+    asked = parser.parse_args(words)
+    if asked.table and asked.form == "csv":
+        parser.error(f"--table needs --as {' or --as '.join(TABLES)}")
+    return asked
 
 
 def as_csv(sets: list[list[Column]]) -> str:

@@ -356,6 +356,8 @@ def wrong_in(asked: argparse.Namespace) -> str:
         return "--tables needs the folder of the texts, -o FOLDER"
     if asked.tables and (asked.statements or asked.input or asked.packets):
         return "--tables has the statements, and keeps no packets"
+    if not asked.tables and (asked.jobs > 1 or asked.retries):
+        return "-j and --retries need --tables FILE"
     if asked.packets == "-":
         return "packets aren't text: --packets needs a FILE"
     return ""
