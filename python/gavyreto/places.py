@@ -32,7 +32,15 @@ class Place(NamedTuple):
         """What is written to, also until it is whole."""
         return [self.path, self.path + PARTIAL] if self.path else [self.descriptor]
 
-    def can_be_written(self) -> bool:
+    def check(self) -> None:
+        """Raises `Stopped` if it can't be opened, as far as that is known before."""
+        if self._can_be_written():
+            return
+        has_folder = not self.path or os.path.exists(os.path.dirname(self.path))
+        why = "it is a folder" if os.path.isdir(self.path) else "can't be written" if has_folder else "its folder isn't there"
+        raise Stopped(f"{self.name}: {why}", FAILED)
+
+    def _can_be_written(self) -> bool:
         """Whether it can be opened, as far as that is known before: a descriptor or what is no regular file itself, else the file beside it."""
         if not self.path:
             return fcntl.fcntl(self.descriptor, fcntl.F_GETFL) & os.O_ACCMODE != os.O_RDONLY
@@ -115,8 +123,7 @@ class Places:
         for wrong in (*self._wrong_in(places), *self._wrong_links(named, number)):
             raise Stopped(wrong, REFUSED)
         for place in places:
-            if not place.can_be_written():
-                raise Stopped(f"{place.name}: can't be written", FAILED)
+            place.check()
         return places
 
     def _wrong_in(self, places: list[Place]) -> Iterator[str]:

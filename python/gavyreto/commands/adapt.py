@@ -17,7 +17,7 @@ from gavyreto.commands.common import (
     STANDARD_ERROR, STANDARD_OUTPUT, STREAMS, Once, Stopped, is_one_file, named, needed, open_response, parser_of,
 )
 from gavyreto.places import Opened, Place, are_shared, place_of, stats_of
-from gavyreto.program import BAD_INPUT, CHARSETS, FAILED, REFUSED
+from gavyreto.program import BAD_INPUT, CHARSETS, REFUSED
 
 
 def arguments(words: list[str]) -> argparse.Namespace:
@@ -33,8 +33,7 @@ def check(place: Place, source: int) -> None:
     for number, what in ((source, "the response is read from"), (STANDARD_ERROR, "the lines are written to"), (STANDARD_OUTPUT, "standard output is written to")):
         if are_shared(stats_of(number), stats_of(*place.names())) if place.path else number == source and is_one_file(place.descriptor, number):
             raise Stopped(f"{place.name}: {what} it", REFUSED)
-    if not place.can_be_written():
-        raise Stopped(f"{place.name}: can't be written", FAILED)
+    place.check()
 
 
 def adapt(asked: argparse.Namespace) -> None:
