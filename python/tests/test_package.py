@@ -170,6 +170,7 @@ class Installed(unittest.TestCase):
         """A flag that means something else here is refused by a line that says what to write; a password isn't repeated."""
         for words, wanted in (
             (["-Q", "SELECT 1"], "argument"), (["-P", "secret"], "SQLCMDPASSWORD"), (["-Psecret"], "SQLCMDPASSWORD"), (["-G"], "--access-token-file FILE"),
+            (["-T"], "write -E"), (["-c"], "CSV"), (["-x"], "variables"),
             (["-t", "5"], "--seconds"), (["-a", "4096"], "--packet-size"), (["-S", "db:1434"], "db,1434"), (["-S", "tcp:db:1434"], "db,1434"),
         ):
             command = [shutil.which("python3") or DEBIAN, "-m", "gavyreto", "query", "-U", "reader", *words]

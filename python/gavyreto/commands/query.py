@@ -223,14 +223,14 @@ def session_of(asked: argparse.Namespace, password: str) -> Session:
 
 # Arguments.
 
-# Flags of sqlcmd that aren't flags here, and what to write instead.
+# Flags of sqlcmd and bcp that aren't flags here, and what to write instead.
 OF_SQLCMD = {
     **dict.fromkeys(("-Q", "-q"), "write the statement itself, as an argument"),
     **dict.fromkeys(("-P", "-Z", "-z", "--password"), "put the password into the variable SQLCMDPASSWORD, or type it when it is asked for"),
-    "-G": "write --access-token-file FILE",
-    "-t": "write --seconds N", "-l": "write --login-seconds N", "-a": "write --packet-size N", "-v": "variables aren't replaced",
+    "-T": "write -E", "-G": "write --access-token-file FILE", **dict.fromkeys(("-v", "-x"), "variables aren't replaced"),
+    "-t": "write --seconds N", "-l": "write --login-seconds N", "-a": "write --packet-size N",
     "-f": "statements are read in UTF-8, and written so", "-b": "the first error ends the statements", "-r": "standard error has all lines",
-    **dict.fromkeys(("-s", "-W", "-w", "-y", "-Y", "-k", "-u", "-R"), "the text is always CSV"),
+    **dict.fromkeys(("-c", "-n", "-s", "-W", "-w", "-y", "-Y", "-k", "-u", "-R"), "the text is always CSV"),
 }
 HEADERS = re.compile("-h ?-?[0-9]")  # after how many rows sqlcmd repeats the names
 # The values of -N, as sqlcmd has them.
