@@ -17,7 +17,7 @@ from gavyreto.response import Feeding, Response, adapt_all
 from gavyreto.rows import Row
 from gavyreto.text import Described, ResultSet, Single
 from gavyreto.values import Dates, check_dates
-from gavyreto.where import PORT, SCHEME, where
+from gavyreto.where import PORT, where
 
 
 class Connection(Single, contextlib.AbstractContextManager["Connection"]):
@@ -240,8 +240,8 @@ def connect(
 ) -> Connection:
     """Connects to a server, and logs in: by user and password, by Kerberos, or by an access token.
 
-    server            the name that its certificate has, or an address; HOST\\INSTANCE, whose port is looked up; or a URL,
-                      mssql://USER@HOST:PORT/DATABASE?NAME=VALUE&.., without a password: what it says goes before arguments
+    server            the name that its certificate has, or an address; HOST,PORT; HOST\\INSTANCE, whose port is looked up; or a
+                      URL, mssql://USER@HOST:PORT/DATABASE?NAME=VALUE&.., without a password: what it says goes before arguments
     integrated        whether the login is by Kerberos, for which Python's module gssapi and a ticket have to be there
     access_token      a token of Entra ID
     database          without it that of the user
@@ -258,15 +258,15 @@ def connect(
     encrypted. Neither a ticket nor a token is sent without encryption."""
     password, access_token = hidden(password), hidden(access_token)
     own: dict[str, Any] = {**locals()}  # all arguments, by their names
-    if isinstance(server, str) and server.lower().startswith(SCHEME):
-        own |= _of_url(server)
+    if isinstance(server, str):
+        own |= _said_by(server)
     return Connection(log_in_to(**own))
 
 
-def _of_url(url: str) -> dict[str, Any]:
-    """What a URL says, as arguments. Raises ValueError."""
-    found = where(url)
-    given: dict[str, Any] = {"server": f"{found.host}\\{found.instance}" if found.instance and not found.port else found.host}
+def _said_by(server: str) -> dict[str, Any]:
+    """What the name of a server or its URL says, as arguments. Raises ValueError."""
+    found = where(server)
+    given: dict[str, Any] = {"server": found.name()}
     given |= {name: value for name, value in (("port", found.port), ("user", found.user), ("database", found.database)) if value}
     for name, value in found.options:
         if name == "trust-server":

@@ -17,7 +17,7 @@ from gavyreto.errors import BadAnswer, CertificateRefused, ConnectionFailed, Enc
 from gavyreto.logins import Hidden, Proof, Proving, checked_token, hidden, proof_of
 from gavyreto.program import owned
 from gavyreto.tds import Encryption, PacketType
-from gavyreto.where import BROWSER, MORE, port_of
+from gavyreto.where import BROWSER, port_of
 
 SECONDS, LOGIN_SECONDS, MOST_SECONDS = 300, 15, 86400
 ENCRYPT = ("all", "login", "none")
@@ -599,8 +599,6 @@ def log_in_to(
     check_number(int, 1, 65535, port=port)
     check_number(int, tds.LEAST_PACKET_SIZE, tds.GREATEST_PACKET_SIZE, packet_size=packet_size)
     check_number(float, 0, MOST_SECONDS, seconds=seconds, login_seconds=login_seconds)
-    if MORE.search(server):
-        raise ValueError("server is a name, an address or a URL, and what is given is none")
     if encrypt not in ENCRYPT:
         raise ValueError(f"encrypt is one of {', '.join(ENCRYPT)}, not {encrypt}")
     if integrated + (access_token is not None) + bool(user or password) > 1:

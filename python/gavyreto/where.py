@@ -31,6 +31,10 @@ class Where(NamedTuple):
     database: str = ""
     options: tuple[tuple[str, str], ...] = ()
 
+    def name(self) -> str:
+        """The host, with the instance if its port isn't given."""
+        return f"{self.host}\\{self.instance}" if self.instance and not self.port else self.host
+
     def trusts(self) -> bool:
         """Whether a URL asks that any certificate is accepted."""
         return dict(self.options).get("trust-server") in YES

@@ -211,10 +211,9 @@ def answered(asking: Asking, statement: str, outputs: list[Opened], before: byte
 
 def session_of(asked: argparse.Namespace, password: str) -> Session:
     found = asked.server
-    host = found.host if found.port or not found.instance else f"{found.host}\\{found.instance}"
     try:
         return connection.log_in_to(
-            host, user=asked.user or "", password=password, port=found.port or PORT, integrated=asked.integrated, access_token=asked.token, database=asked.database, encrypt=asked.encrypt,
+            found.name(), user=asked.user or "", password=password, port=found.port or PORT, integrated=asked.integrated, access_token=asked.token, database=asked.database, encrypt=asked.encrypt,
             certificates=asked.certificates, certificate_name=asked.certificate_name or "", trust_server=asked.trust_server,
             packet_size=asked.packet_size, seconds=asked.seconds, login_seconds=asked.login_seconds)
     except ValueError as refused:
