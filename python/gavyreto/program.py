@@ -133,7 +133,7 @@ def path_of(program: str) -> str:
     found = shutil.which(program)
     if found is None:
         from_where = ": Debian's package gavyreto brings it, and `make install` of the source" if program == PROGRAM else ""
-        raise FileNotFoundError(f"the program {program} isn't there, or can't be run{from_where}")
+        raise FileNotFoundError(errno.ENOENT, f"the program {program} isn't there, or can't be run{from_where}", program)
     return found
 
 
@@ -271,7 +271,7 @@ class Program(contextlib.AbstractContextManager["Program"]):
             self._nothing.append(os.open(os.devnull, os.O_WRONLY | os.O_CLOEXEC))
         process = subprocess.Popen(
             self._words(), bufsize=0, stdin=subprocess.PIPE if self._source is None else self._source, stdout=subprocess.PIPE,
-            stderr=subprocess.PIPE, start_new_session=True)
+            stderr=subprocess.PIPE, start_new_session=True, executable=path_of(self.command[0]))
         self._text, self._notes = (cast("IO[bytes]", it).fileno() for it in (process.stdout, process.stderr))
         self._open = {self._text, self._notes}
         for pipe in filter(None, (process.stdin, process.stdout)):

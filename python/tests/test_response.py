@@ -465,8 +465,9 @@ class Sources(unittest.TestCase):
                 export(source)
         with self.assertRaises(FileNotFoundError):
             export("no such file")
-        with self.assertRaises(FileNotFoundError):
-            gavyreto.export(b"", program="no such program")
+        for name, line in (("no such program", "isn't there"), ("tds_replay", "Debian's package gavyreto brings it")):
+            with mock.patch.dict(os.environ, PATH="/not/here"), self.assertRaisesRegex(FileNotFoundError, f"the program {name} .*{line}"):
+                gavyreto.export(b"", program=name)
 
 
     def test_what_was_opened_where_none_begins(self) -> None:
