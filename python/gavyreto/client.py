@@ -5,7 +5,7 @@ import contextlib
 import io
 import threading
 from functools import partial
-from typing import Any, Iterator, Optional
+from typing import Any, Iterable, Iterator, Optional
 
 from gavyreto.adapting import Adapter, Blocks
 from gavyreto.connection import ENCRYPT, LOGIN_SECONDS, SECONDS, Session, check_type, log_in_to
@@ -124,6 +124,11 @@ class Cursor(Single, contextlib.AbstractContextManager["Cursor"]):
         self._answer = self.connection.query(statement, **options)
         self.nextset()
         return self
+
+    def executemany(self, statement: str, parameters: Iterable[object]) -> None:
+        """Asks once for each parameters, which raise NotSupportedError."""
+        for each in parameters:
+            self.execute(statement, each)
 
     def nextset(self) -> Optional[bool]:
         """Goes to the next set. None if there is none."""

@@ -736,6 +736,8 @@ class DatabaseApi(Live):
             cursor = connection.cursor()
             with self.assertRaises(gavyreto.NotSupportedError):
                 cursor.execute("x", (1,))
+            cursor.executemany("x", [])
+            self.assertRaises(gavyreto.NotSupportedError, cursor.executemany, "x", [(1,)])
             self.assertEqual(len(cursor.execute("x").fetchmany(2)), 2)
             self.assertRaises(gavyreto.ServerError, cursor.fetchmany, 3)
             cursor.close()
