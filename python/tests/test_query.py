@@ -22,6 +22,7 @@ from unittest import mock
 
 import gavyreto
 from gavyreto import tds
+from gavyreto.commands import query
 from gavyreto.connection import Channel, Session
 from gavyreto.tds import PacketType
 from tests import test_adapt
@@ -140,7 +141,7 @@ class Answers(Live):
     def test_packets_that_are_kept(self) -> None:
         """All of them, also where the program needs no more; of an answer that breaks off what came, under another name."""
         came = self.query("TRUSTED --packet-size 4096 --packets kept.tds 'SELECT * FROM float'")
-        self.assert_ends(came, 4, b"", "fault 10 RefusedColumn 1 FLTN at payload 15, written 0, unwritten 0")
+        self.assert_ends(came, 4, b"", "fault 10 RefusedColumn 1 FLTN at payload 15, written 0, unwritten 0", query.REFUSED_COLUMN)
         self.assertEqual(self.text("kept.tds"), wire("float"))
         came = self.query("TRUSTED --packet-size 4096 --packets kept.tds 'SELECT * FROM broken'", ("--cut-after", "9000"))
         self.assertEqual((came.returncode, self.text("kept.tds"), self.text("kept.tds.partial")), (5, wire("float"), wire("broken", 5000)[:9000]))
@@ -220,7 +221,7 @@ class Refusals(Live):
         for encrypt in ("login", "all"):
             with self.subTest(encrypt=encrypt):
                 came = self.query(f"TRUSTED --encrypt {encrypt} 'SELECT * FROM float' 'SELECT * FROM orders'")
-                self.assert_ends(came, 4, b"", "fault 10 RefusedColumn 1 FLTN at payload 15, written 0, unwritten 0")
+                self.assert_ends(came, 4, b"", "fault 10 RefusedColumn 1 FLTN at payload 15, written 0, unwritten 0", query.REFUSED_COLUMN)
 
     def test_a_server_without_encryption(self) -> None:
         for words in ("", "--encrypt login", "-No"):

@@ -35,6 +35,7 @@ from gavyreto.commands.common import (
     tell_all,
 )
 from gavyreto.connection import Session
+from gavyreto.errors import Fault
 from gavyreto.logins import LONGEST_TOKEN, Secret
 from gavyreto.places import Opened, Places
 from gavyreto.program import DONE, FAILED, REFUSED, SERVER_ERROR, Ending, Program
@@ -45,6 +46,7 @@ SEPARATOR = b"\r\n"
 GO = re.compile(r"\s*GO(?:\s+(\d+))?\s*;?\s*(?:--.*)?", re.IGNORECASE | re.ASCII | re.DOTALL)
 MOST_TIMES = 2**31 - 1  # that a GO sends a statement
 CHECKED_OUTPUTS = 1000  # outputs that are looked at before anything is sent
+REFUSED_COLUMN = "--adapt reads a column of this type, or a CAST in the statement gives it another"
 UTF_16 = "is it UTF-16? iconv -f UTF-16 -t UTF-8 makes UTF-8 of it"
 
 
@@ -169,6 +171,8 @@ def ask(asked: argparse.Namespace, statements: Iterator[str], password: str) -> 
                 ending = answered(asking, statement, outputs, SEPARATOR if has_text else b"", progress)
                 has_text = has_text or not asked.output and ending.written > 0
                 tell_all(ending.notes)
+                if isinstance(ending.said, Fault) and ending.said.name == "RefusedColumn":
+                    common.tell(REFUSED_COLUMN)
                 if ending.status:
                     return ending.status
             session.end()
