@@ -1,7 +1,10 @@
-"""The rows of a result set as a DataFrame of pandas, typed by the columns."""
+"""The rows of a result set as a DataFrame of pandas, typed by the columns. It is imported where a frame is asked for, as pandas is here."""
 from __future__ import annotations
 
 from typing import Any, Callable, Optional, cast
+
+import pandas  # type: ignore[import]  # first: it brings numpy
+import numpy
 
 from gavyreto.columns import Column
 from gavyreto.text import Columns, ResultSet
@@ -30,8 +33,6 @@ class Gathered:
         self._greatest = 0
 
     def add(self, values: list[Value]) -> None:
-        import numpy
-
         if self._is_float:
             self._parts.append(numpy.array(values, dtype="float64"))  # None becomes NaN, which no float of a server is
         elif self._is_whole:
@@ -44,22 +45,16 @@ class Gathered:
 
     def values(self) -> list[Value]:
         """The values again, with the types that they had."""
-        import numpy
-        import pandas  # type: ignore[import]
-
         values = (value for part in self._parts for value in numpy.asarray(part, dtype=object).tolist())
         return [None if value is pandas.NA or value != value else value for value in values]
 
     def series(self) -> Any:
-        import numpy
-        import pandas
-
         if self._is_whole:
             return pandas.concat([pandas.Series(part) for part in self._parts], ignore_index=True) if self._parts else pandas.Series([], dtype=self._kind)
         whole = numpy.concatenate(self._parts) if self._parts else numpy.array([], dtype="float64" if self._is_float else object)
         self._parts = [whole]
         if self._is_moment:
-            return _moments(pandas, whole)
+            return _moments(whole)
         return pandas.Series(whole, dtype=self._kind or self._kind_by_values())
 
     def _kind_by_values(self) -> str:
@@ -71,9 +66,6 @@ class Gathered:
 
 def _whole_numbers(values: list[Value], kind: str) -> Any:
     """Whole numbers and NULL as pandas has them."""
-    import numpy
-    import pandas
-
     try:
         numbers = numpy.fromiter(cast("list[int]", values), dtype=kind.lower(), count=len(values))
         mask = numpy.zeros(len(values), dtype=bool)
@@ -87,15 +79,13 @@ def _whole_numbers(values: list[Value], kind: str) -> Any:
 
 def _objects(values: list[Value]) -> Any:
     """Values as objects; equal texts and binary values are one."""
-    import numpy
-
     if isinstance(next((value for value in values if value is not None), None), (str, bytes)):
         known: dict[Value, Value] = {}
         values = list(map(known.setdefault, values, values))
     return numpy.fromiter(values, dtype=object, count=len(values))
 
 
-def _moments(pandas: Any, values: Any) -> Any:
+def _moments(values: Any) -> Any:
     """Dates and times of a column; they stay objects if one is out of the range that pandas has."""
     try:
         return pandas.Series(pandas.to_datetime(pandas.Series(values, dtype=object))).astype("datetime64[ns]")
@@ -105,8 +95,6 @@ def _moments(pandas: Any, values: Any) -> Any:
 
 def frame_of(rows: ResultSet, made: Callable[[Any], Any] = lambda frame: frame) -> Any:
     """A DataFrame with the rows that are left of a set, or what is made of it."""
-    import pandas
-
     described = dict(enumerate(rows.columns or []))
     gathered = [Gathered(described.get(place), rows.is_dated) for place in range(len(rows.names))]
 
