@@ -73,14 +73,9 @@ def say(text: str) -> None:
         pass  # it is closed, or full
 
 
-def tell(line: str) -> None:
-    """Writes one line to standard error, with control characters spelt."""
-    say(escaped(line) + "\n")
-
-
-def tell_all(notes: str) -> None:
-    """Writes the lines of the program to standard error, at once."""
-    say("".join(escaped(it) + "\n" for it in notes.split("\n") if it))
+def tell(*lines: str) -> None:
+    """Writes lines to standard error, at once, with control characters spelt."""
+    say("".join(escaped(it) + "\n" for it in lines))
 
 
 def line(values: Iterable[Union[None, int, str]]) -> str:

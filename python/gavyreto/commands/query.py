@@ -32,7 +32,7 @@ from gavyreto.asking import Asking, Interrupt
 from gavyreto.commands import common
 from gavyreto.commands.common import (
     STANDARD_INPUT, STANDARD_OUTPUT, Input, Once, Stopped, add_options_of_program, cause_of, check_input, checked_program, is_one_file, named, naming, needed, number_in, parser_of,
-    tell_all,
+    tell,
 )
 from gavyreto.connection import Session
 from gavyreto.errors import Fault
@@ -170,9 +170,9 @@ def ask(asked: argparse.Namespace, statements: Iterator[str], password: str) -> 
                 progress.begin(number)
                 ending = answered(asking, statement, outputs, SEPARATOR if has_text else b"", progress)
                 has_text = has_text or not asked.output and ending.written > 0
-                tell_all(ending.notes)
+                tell(*filter(None, ending.notes.split("\n")))
                 if isinstance(ending.said, Fault) and ending.said.name == "RefusedColumn":
-                    common.tell(REFUSED_COLUMN)
+                    tell(REFUSED_COLUMN)
                 if ending.status:
                     return ending.status
             session.end()
