@@ -351,19 +351,16 @@ def arguments(words: list[str]) -> argparse.Namespace:
 
 def wrong_in(asked: argparse.Namespace) -> str:
     """Which arguments don't go together; "" if all do."""
-    if asked.integrated + bool(asked.access_token_file) + bool(asked.user) > 1:
-        return "a login is by -U, by -E or by --access-token-file: one of them"
-    if asked.statements and asked.input:
-        return "statements are arguments, or in files: not both"
-    if asked.tables and not asked.output:
-        return "--tables needs the folder of the texts, -o FOLDER"
-    if asked.tables and (asked.statements or asked.input or asked.packets):
-        return "--tables has the statements, and keeps no packets"
-    if not asked.tables and (asked.jobs > 1 or asked.retries):
-        return "-j and --retries need --tables FILE"
-    if asked.packets == "-":
-        return "packets aren't text: --packets needs a FILE"
-    return ""
+    logins = asked.integrated + bool(asked.access_token_file) + bool(asked.user)
+    wrong = (
+        (logins > 1, "a login is by -U, by -E or by --access-token-file: one of them"),
+        (asked.statements and asked.input, "statements are arguments, or in files: not both"),
+        (asked.tables and not asked.output, "--tables needs the folder of the texts, -o FOLDER"),
+        (asked.tables and (asked.statements or asked.input or asked.packets), "--tables has the statements, and keeps no packets"),
+        (not asked.tables and (asked.jobs > 1 or asked.retries), "-j and --retries need --tables FILE"),
+        (asked.packets == "-", "packets aren't text: --packets needs a FILE"),
+    )
+    return next((line for is_wrong, line in wrong if is_wrong), "")
 
 
 def password_of(asked: argparse.Namespace, of_environment: str) -> str:
