@@ -42,7 +42,7 @@ from gavyreto.commands.common import (
     SIGNALS, Changed, Input, Progress, Stopped, add_options_of_program, cause_of, check_input, checked_program, command_for, folder_of_texts, line, number_in, parser_of, put, rename, tell,
 )
 from gavyreto.payload import Ended
-from gavyreto.program import BAD_INPUT, DECIDED, FAILED, REFUSED, SERVER_ERROR, Ending, OutputFailed
+from gavyreto.program import BAD_INPUT, DECIDED, DONE, FAILED, REFUSED, SERVER_ERROR, Ending, OutputFailed
 from gavyreto.tds import PacketType
 
 HEADER = ("text", "client", "server", "time", "statement", "status", "line")
@@ -87,7 +87,7 @@ class Export:
         ending, text = kept.export(answer.packets.is_whole and not answer.why)
         outcome = self._outcome(ending, answer)
         name = self._next_name(sides)
-        suffix = ".csv" if outcome.status in (0, SERVER_ERROR) else ".csv.partial"
+        suffix = ".csv" if outcome.status in (DONE, SERVER_ERROR) else ".csv.partial"
         self._put_file(text, name + suffix)
         if self._asked.packets:
             self._put_file(packets, name + ".tds")
@@ -112,14 +112,9 @@ class Export:
 
     def _outcome(self, outcome: Ending, answer: Answer) -> Ending:
         """The outcome of an answer, with what its packets say of its end."""
-        if outcome.status == FAILED or outcome.status > BAD_INPUT:
-            return outcome
-        if answer.why:
-            return outcome._replace(status=BAD_INPUT, line=f"{answer.why}: {outcome.line}")
-        unfinished = tds.unfinished(answer.packets.tail) if outcome.status == 0 else None
-        if unfinished:
-            return outcome._replace(status=SERVER_ERROR, line=f"{outcome.line}, {unfinished}")
-        return outcome
+        outcome = outcome.refused(answer.why)
+        unfinished = tds.unfinished(answer.packets.tail) if outcome.status == DONE else None
+        return outcome._replace(status=SERVER_ERROR, line=f"{outcome.line}, {unfinished}") if unfinished else outcome
 
     def _next_name(self, sides: Sides) -> str:
         stem = f"{sides.client}-{sides.server}".replace(":", "_") if sides.client else "answer"
