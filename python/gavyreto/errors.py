@@ -64,7 +64,7 @@ def _found(pattern: re.Pattern[str], line: str) -> re.Match[str]:
 class Fault(Error):
     """The program stopped: at a fault of the input, or at a failed read or write. docs/PROTOCOL.md lists the faults."""
 
-    def __init__(self, line: str, rest: str = "") -> None:
+    def __init__(self, line: str) -> None:
         super().__init__(line)
         found = _found(FAULT, line)
         self.number = int(found["number"])  #: 1 to 21
@@ -74,7 +74,7 @@ class Fault(Error):
         self.place = int(found["place"])  #: bytes before the fault
         self.written = int(found["written"])  #: bytes of text written
         self.unwritten = int(found["unwritten"])  #: bytes of text that weren't written
-        self.rest = rest  #: the text of the row that wasn't read to its end, its first million characters at most, or ""
+        self.rest = ""  #: the text of the row that wasn't read to its end, its first million characters at most, or ""
 
 
 class Warning(Exception):

@@ -545,7 +545,7 @@ class Sets(Single):
     def __enter__(self: S) -> S:
         return self
 
-    def __exit__(self, kind: object, *_: object) -> None:
+    def __exit__(self, *_: object) -> None:
         self.close()
 
     def __iter__(self) -> Sets:

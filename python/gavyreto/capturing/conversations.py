@@ -107,7 +107,7 @@ class Conversation:
             stream.begin((sequence + is_only_one) % SPACE, True)
             if not is_client:
                 self._answers.begin_late(time)
-        acknowledged = self._acknowledged(is_client, stream, other, segment)
+        acknowledged = self._acknowledged(is_client, other, segment)
         if is_client and not self._is_client_absent:
             self._is_client_seen = self._answers.is_client_known = True
         place = self._arriving = stream.place_of(sequence)
@@ -134,7 +134,7 @@ class Conversation:
             else:
                 self._answers.begin_whole()
 
-    def _acknowledged(self, is_client: bool, stream: Stream, other: Stream, segment: Segment) -> int:
+    def _acknowledged(self, is_client: bool, other: Stream, segment: Segment) -> int:
         """The place of the byte that the sender of a segment expects."""
         if not segment.flags & ACK:
             return 0
@@ -143,7 +143,7 @@ class Conversation:
             if is_client:
                 self._answers.begin_late(self._time)
         place = other.place_of(segment.acknowledged)
-        if segment.flags & SYN and place < other.start and is_client is False:
+        if segment.flags & SYN and place < other.start and not is_client:
             self._lacking += other.start - place  # the connection begins in the capture, and its client had sent them
             other.start = place
         if segment.is_wrong:
