@@ -22,7 +22,9 @@ HEADER = ("set", "name", "type", "length", "precision", "scale", "nullable")
 def arguments(words: list[str]) -> argparse.Namespace:
     parser = parser_of("columns", __doc__)
     parser.add_argument("--as", dest="form", choices=["csv", *TABLES], default="csv", help="form of the output (default: csv)")
-    parser.add_argument("--table", metavar="NAME", type=named, action=Once, help="name of the table (default: response), or SCHEMA.NAME; {} is the number of the set, from 1")
+    parser.add_argument(
+        "--table", metavar="NAME", type=named, action=Once,
+        help="with --as, the name of the table, or SCHEMA.NAME (default: response; response{} for several sets); {} is the number of the set, from 1")
     parser.add_argument("file", metavar="FILE", nargs="?", default="-", help="the response (default, or -: standard input)")
     asked = parser.parse_args(words)
     if asked.table and asked.form == "csv":

@@ -321,7 +321,8 @@ def add_connection(add: Callable[..., object]) -> None:
     add("--seconds", metavar="N", type=number_in(1, connection.MOST_SECONDS), default=connection.SECONDS,
         help=f"longest time that the server may be silent, 1 to {connection.MOST_SECONDS} (default: {connection.SECONDS})")
     add("--login-seconds", metavar="N", type=number_in(1, connection.MOST_SECONDS), default=None,
-        help=f"longest time from the look-up of HOST to the end of the login (default: SQLCMDLOGINTIMEOUT, else {connection.LOGIN_SECONDS})")
+        help=f"longest time from the look-up of HOST to the end of the login, 1 to {connection.MOST_SECONDS} (default: SQLCMDLOGINTIMEOUT, "
+             f"else {connection.LOGIN_SECONDS})")
     add("--packet-size", metavar="N", type=number_in(tds.LEAST_PACKET_SIZE, tds.GREATEST_PACKET_SIZE), default=program.PACKET_SIZE_ASKED,
         help=f"packet size to ask for, 512 to 32767 (default: {program.PACKET_SIZE_ASKED})")
 
