@@ -379,7 +379,7 @@ class Parser(argparse.ArgumentParser):
         asked, unknown = self.parse_known_args(words, namespace)
         if unknown:
             shown = " ".join(it[:2] if re.match("-[^-]", it) else it.partition("=")[0] for it in unknown if it.startswith("-"))
-            self.error(f"unknown options: {shown}" if shown else f"{len(unknown)} arguments too many")
+            self.error(f"unknown options: {shown}" if shown else f"too many arguments, by {len(unknown)}")
         return asked
 
 
