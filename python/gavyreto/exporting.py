@@ -12,19 +12,11 @@ from typing import IO, Optional
 from gavyreto import outcomes, program, tds
 from gavyreto.adapting import hand_over
 from gavyreto.commands.common import cause_of
+from gavyreto.outcomes import Stamp, stamp_of
 from gavyreto.program import BAD_INPUT, BLOCK, CHANGED, DECIDED, DONE, FAILED, SERVER_ERROR, Output, Program
 
 DIGITS = 16  # of the digest of a program that are kept
 MORE = "more is behind the response, which isn't read: gavyreto capture reads all that a server sent"
-
-
-Stamp = tuple[int, int, int, int]
-
-
-def stamp_of(found: os.stat_result) -> Stamp:
-    """What tells a file from another one of its name: its bytes, the times in nanoseconds of its last write and of its last change, which
-    nobody can set, and its inode."""
-    return found.st_size, found.st_mtime_ns, found.st_ctime_ns, found.st_ino
 
 
 @dataclass

@@ -43,7 +43,13 @@ class Record:
 
 
 R = TypeVar("R", bound=Record)
-State = tuple[int, int, int, int]  # of a file: its inode, its bytes, and the times of its last write and of its last change
+Stamp = tuple[int, int, int, int]
+
+
+def stamp_of(found: os.stat_result) -> Stamp:
+    """What tells a file from another one of its name: its bytes, the times in nanoseconds of its last write and of its last change, which
+    nobody can set, and its inode."""
+    return found.st_size, found.st_mtime_ns, found.st_ctime_ns, found.st_ino
 
 
 class Table(Generic[R]):
@@ -55,7 +61,7 @@ class Table(Generic[R]):
         self._kinds = [KINDS[str(it.type)] for it in fields(record)]
         self._header = line([of, *(it.name for it in fields(record)[1:])]).encode()
         self.records = self._read()
-        self._there = dict[str, Optional[State]]()  # the texts of these names before any of this run
+        self._there = dict[str, Optional[Stamp]]()  # the texts of these names before any of this run
         self._descriptor, self._size = -1, 0  # of the table
 
     def _read(self) -> dict[str, R]:
@@ -106,21 +112,20 @@ class Table(Generic[R]):
         if is_one_file(out.name, os.path.join(self._folder, os.path.basename(out.name).swapcase())):
             check_apart(TABLE.removesuffix(TEXT), *(os.path.basename(it) for it in (*again, *self.records)))
         os.replace(out.name, self._path)
-        self._there = {text: self._state_of(text) for text in texts}
+        self._there = {text: self._stamp_of(text) for text in texts}
         self._descriptor = os.open(self._path, os.O_WRONLY | os.O_APPEND | os.O_CLOEXEC)
         self._size = os.fstat(self._descriptor).st_size
 
-    def _state_of(self, text: str) -> Optional[State]:
-        """What tells a text from another one of its name; None if none is there."""
+    def _stamp_of(self, text: str) -> Optional[Stamp]:
+        """The stamp of a text; None if none is there."""
         with contextlib.suppress(OSError):
-            found = os.lstat(os.path.join(self._folder, text))
-            return found.st_ino, found.st_size, found.st_mtime_ns, found.st_ctime_ns
+            return stamp_of(os.lstat(os.path.join(self._folder, text)))
         return None
 
     def _is_old(self, text: str) -> bool:
         """Whether a text is there that was there before any of this run."""
-        state = self._there.get(text)
-        return state is not None and state == self._state_of(text)
+        stamp = self._there.get(text)
+        return stamp is not None and stamp == self._stamp_of(text)
 
     def _write(self, data: bytes) -> None:
         """Writes a line. Raises `Stopped` if lines are lost: an editor that saves the table puts an older one in its place, or into it."""

@@ -23,8 +23,8 @@ from typing import Any, Generator, Optional, Union
 
 from gavyreto import outcomes
 from gavyreto.commands.common import STANDARD_ERROR, STREAMS, Stopped, add_options_of_program, cause_of, checked_program, command_for, folder_of_texts, named, number_in, parser_of
-from gavyreto.exporting import Record, end_all, export_file, kill_all, stamp_of, version_of
-from gavyreto.outcomes import TABLE, Progress, summed, texts_of
+from gavyreto.exporting import Record, end_all, export_file, kill_all, version_of
+from gavyreto.outcomes import TABLE, Progress, stamp_of, summed, texts_of
 from gavyreto.places import stats_of
 from gavyreto.program import FAILED, INTERRUPTED, REFUSED
 
