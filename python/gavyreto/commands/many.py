@@ -18,7 +18,6 @@ import os
 import re
 import time
 from concurrent.futures import FIRST_COMPLETED, Future, ThreadPoolExecutor, wait
-from types import TracebackType
 from typing import Any, Generator, Optional, Union
 
 from gavyreto import outcomes
@@ -160,7 +159,7 @@ class Cluster:
             raise Stopped(f"the scheduler {self._where} can't be reached: {cause}", FAILED) from None
         return self
 
-    def __exit__(self, *_: Union[None, type[BaseException], BaseException, TracebackType]) -> None:
+    def __exit__(self, *_: object) -> None:
         with contextlib.suppress(OSError, RuntimeError, concurrent.futures.CancelledError):
             self._client.close(timeout=SECONDS_OF_SCHEDULER)  # type: ignore[no-untyped-call]
 
