@@ -94,6 +94,11 @@ def place_of(name: str) -> Place:
     return Place(name, -1, os.path.realpath(name)) if opened is None else Place(name, opened)
 
 
+def templates_of(asked: argparse.Namespace) -> list[str]:
+    """The names of files to write, in which {} stands for a number."""
+    return [it for it in (asked.output, asked.packets) if it]
+
+
 class Places:
     """The places of the rows and packets of statements. No two may be one file, and none one that is read."""
 
@@ -104,7 +109,7 @@ class Places:
         inputs = {STANDARD_INPUT if it == "-" else it: "the statements are read from it" for it in statements}
         inputs |= {it: "it is read too" for it in (asked.certificates, asked.access_token_file, asked.program) if it}
         self._inputs = [(found, why) for it, why in inputs.items() for found in stats_of(it) if stat.S_ISREG(found.st_mode)]
-        self._templates = [it for it in (asked.output, asked.packets) if it]
+        self._templates = templates_of(asked)
         self._paths = [os.path.realpath(it) for it in self._templates]
         form = "|".join(re.escape(it).replace(r"\{\}", "[0-9]+") for it in self._paths)
         self._own = re.compile(f"(?:{form})(?:{re.escape(PARTIAL)})?")

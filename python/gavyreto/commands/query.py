@@ -37,7 +37,7 @@ from gavyreto.commands.common import (
 from gavyreto.connection import Session
 from gavyreto.errors import Fault
 from gavyreto.logins import LONGEST_TOKEN, Secret
-from gavyreto.places import Opened, Places
+from gavyreto.places import Opened, Places, templates_of
 from gavyreto.program import DONE, FAILED, REFUSED, SERVER_ERROR, Ending, Program
 from gavyreto.where import PORT, Where, where
 
@@ -117,11 +117,6 @@ def statements_of(asked: argparse.Namespace) -> Iterator[str]:
     if first is None:
         raise Stopped("no statement", REFUSED)
     return chain([first], sent)
-
-
-def templates_of(asked: argparse.Namespace) -> list[str]:
-    """The names of files to write, in which {} stands for a number."""
-    return [it for it in (asked.output, asked.packets) if it]
 
 
 def check(found: list[Batch], asked: argparse.Namespace) -> None:
