@@ -4,6 +4,7 @@ from __future__ import annotations
 import argparse
 import fcntl
 import os
+import pty
 import socket
 import stat
 import struct
@@ -21,6 +22,7 @@ from unittest import mock
 import gavyreto
 from gavyreto import outcomes, places, tds
 from gavyreto.where import OF_URL, Where
+from gavyreto.commands import query
 from gavyreto.commands.query import arguments, server
 from gavyreto.connection import Channel
 from gavyreto.tds import PacketType
@@ -108,6 +110,16 @@ class Arguments(Live):
             came = self.query("TRUSTED -i wide.sql")
             self.assertEqual((came.returncode, came.stderr.count(b"\n")), (2, 1))
             self.assertIn(b"iconv -f UTF-16 -t UTF-8", came.stderr)
+
+    def test_statements_that_are_typed(self) -> None:
+        """It is told that they are waited for."""
+        terminal, other = pty.openpty()
+        os.write(terminal, b"\x04")
+        own: dict[str, Any] = started() | {"stdin": other}
+        came = subprocess.run(command_for(1, "--adapt"), **own, capture_output=True)
+        self.assert_ends(came, 2, b"", query.TYPED, "no statement")
+        os.close(terminal)
+        os.close(other)
 
     def test_a_hyphen_is_standard_input_and_output(self) -> None:
         came = self.query("TRUSTED -i - -o - < lines", (), "echo 'SELECT * FROM orders' > lines; ")

@@ -47,6 +47,7 @@ GO = re.compile(r"\s*GO(?:\s+(\d+))?\s*;?\s*(?:--.*)?", re.IGNORECASE | re.ASCII
 MOST_TIMES = 2**31 - 1  # that a GO sends a statement
 CHECKED_OUTPUTS = 1000  # outputs that are looked at before anything is sent
 REFUSED_COLUMN = "--adapt reads a column of this type, or a CAST in the statement gives it another"
+TYPED = "statements are read from this terminal: a line GO ends each, and Ctrl-D all of them"
 UTF_16 = "is it UTF-16? iconv -f UTF-16 -t UTF-8 makes UTF-8 of it"
 
 
@@ -107,6 +108,8 @@ def _text_of(line: bytes, where: str, is_first: bool) -> str:
 def statements_of(asked: argparse.Namespace) -> Iterator[str]:
     """The statements to send, at least one. Those of arguments and files are read before the first is handed out, and those of
     standard input too where they go to one file, which has room for one."""
+    if not asked.statements and not asked.input and os.isatty(STANDARD_INPUT):
+        tell(TYPED)
     read = [Batch(it, 1) for it in asked.statements] or (batch for path in asked.input or ["-"] for batch in batches(lines_of(path)))
     found: Iterable[Batch] = (batch for batch in read if batch.statement.strip())
     if asked.statements or asked.input or any("{}" not in it for it in templates_of(asked)):
