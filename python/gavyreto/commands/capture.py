@@ -239,8 +239,7 @@ def arguments(words: list[str]) -> argparse.Namespace:
     parser = parser_of("capture", __doc__)
     add = parser.add_argument
     add("--port", metavar="N", type=number_in(1, 65535), action="append", help="port of a server (default: 1433); repeat it for several")
-    add("--packets", action="store_true", help="keep the packets of each response beside its text, for columns, adapt and many")
-    add("--adapt", action="store_true", help="rewrite columns that tds_replay refuses, as the command adapt does; the packets kept are those rewritten")
+    add("--packets", action="store_true", help="keep the packets of each response beside its text, for columns, adapt and many; with --adapt those rewritten")
     add_options_of_program(parser)
     add("file", metavar="FILE", help="the capture or dump, or - for standard input")
     add("out", metavar="OUT", help="the folder of the texts, which is made if it isn't there")

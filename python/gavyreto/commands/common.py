@@ -416,6 +416,7 @@ def number_in(least: int, most: int) -> Callable[[str], int]:
 
 def add_options_of_program(parser: argparse.ArgumentParser) -> None:
     """The options of commands that run tds_replay."""
+    parser.add_argument("--adapt", action="store_true", help="rewrite columns that tds_replay refuses, as the command adapt does")
     parser.add_argument("--column-room", metavar="N", type=number_in(10, 67108864), default=program.COLUMN_ROOM, help="bytes for the description of columns, as in tds_replay")
     parser.add_argument("--charset", choices=program.CHARSETS, default=program.CHARSETS[0], help="character set of char and varchar")
     parser.add_argument("--program", metavar="FILE", default=program.PROGRAM, help="the program tds_replay (default: the one on PATH)")

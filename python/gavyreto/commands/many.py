@@ -211,7 +211,6 @@ def arguments(words: list[str]) -> argparse.Namespace:
     add = parser.add_argument
     add("-j", "--jobs", metavar="N", type=number_in(1, 1024), default=len(os.sched_getaffinity(0)), help="responses read at once (default: the number of processors)")
     add("--scheduler", metavar="WHERE", type=named, help="a Dask cluster: its address, or its scheduler file; each worker must see FILE and OUT under the same paths")
-    add("--adapt", action="store_true", help="rewrite columns that tds_replay refuses, as the command adapt does")
     add_options_of_program(parser)
     add("files", metavar="FILE", nargs="+", type=named, help="responses, or folders of them")
     add("out", metavar="OUT", type=named, help="the folder of the texts, which is made if it isn't there")

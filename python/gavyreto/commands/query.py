@@ -304,8 +304,7 @@ def add_outputs(add: Callable[..., object]) -> None:
     add("-j", "--jobs", metavar="N", type=number_in(1, 1024), default=1, help="with --tables, the connections (default: 1)")
     add("--retries", metavar="N", type=number_in(0, 1000), default=0,
         help="with --tables, how often a statement is sent again whose connection broke (default: 0)")
-    add("--packets", metavar="FILE", type=named, action=Once, help="keep the packets of each answer in a file, as they came; {} is the number of the statement")
-    add("--adapt", action="store_true", help="rewrite columns that tds_replay refuses, as the command adapt does; packets are kept as they came")
+    add("--packets", metavar="FILE", type=named, action=Once, help="keep the packets of each answer in a file, as they came, also with --adapt; {} is the number of the statement")
 
 
 def add_connection(add: Callable[..., object]) -> None:
