@@ -208,11 +208,9 @@ class Channel:
             raise ConnectionFailed(f"no certificate has the name that is asked for: {wrong}") from None
         is_done = False
         while not is_done:
-            try:
+            with contextlib.suppress(ssl.SSLWantReadError):
                 tls.do_handshake()
                 is_done = True
-            except ssl.SSLWantReadError:
-                pass
             if self._to_send.pending:
                 self.write_message(PacketType.PRELOGIN, self._to_send.read())
             if not is_done:

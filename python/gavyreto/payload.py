@@ -3,6 +3,7 @@
 It judges nothing: the program tds_replay does. What it can't follow raises ValueError, and `Ended` where the payload ends."""
 from __future__ import annotations
 
+import contextlib
 from itertools import chain, compress, islice
 from typing import Callable, Iterator, Optional, TypeVar
 
@@ -291,19 +292,16 @@ class NotedDescriptions(Descriptions):
     def note(self, payload: Payload, most: Optional[int] = None) -> None:
         """Notes the descriptions of a payload, at most so many, as far as it can be followed: the program says what is wrong."""
         try:
-            for found in islice(columns_of(payload), most):
-                self.add(found)
-        except (ValueError, Ended):
-            pass
+            with contextlib.suppress(ValueError, Ended):
+                for found in islice(columns_of(payload), most):
+                    self.add(found)
         finally:
             self.end()
 
     def watch(self, payload: Payload) -> bool:
         """Reads a payload to its end, and notes its descriptions. Returns whether it is whole."""
         self.note(payload)
-        try:
+        with contextlib.suppress(ValueError, Ended):
             while payload.packet():
                 payload.at = len(payload.data)
-        except (Ended, ValueError):
-            pass
         return payload.is_over

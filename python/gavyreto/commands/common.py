@@ -66,11 +66,9 @@ class Changed(Stopped):
 
 def say(text: str) -> None:
     """Writes to standard error; a failure changes no status, as with tds_replay."""
-    try:
+    with contextlib.suppress(OSError, ValueError):  # it is closed, or full
         sys.stderr.write(text)
         sys.stderr.flush()
-    except (OSError, ValueError):
-        pass  # it is closed, or full
 
 
 def tell(*lines: str) -> None:
