@@ -271,14 +271,12 @@ def connect(
 def _said_by(server: str) -> dict[str, Any]:
     """What the name of a server or its URL says, as arguments. Raises ValueError."""
     found = where(server)
-    given: dict[str, Any] = {"server": found.name()}
-    given |= {name: value for name, value in (("port", found.port), ("user", found.user), ("database", found.database)) if value}
-    for name, value in found.options:
-        if name == "trust-server":
-            given["trust_server"] = found.trusts()
-        else:
-            given[name.replace("-", "_")] = int(value) if name in ("packet-size", "seconds", "login-seconds") else value
-    return given
+    named = {"port": found.port, "user": found.user, "database": found.database, **dict(found.options)}
+    numbers = ("packet-size", "seconds", "login-seconds")
+    given: dict[str, Any] = {name.replace("-", "_"): int(value) if name in numbers else value for name, value in named.items() if value}
+    if "trust-server" in named:
+        given["trust_server"] = found.trusts()
+    return {"server": found.name(), **given}
 
 
 def query(
