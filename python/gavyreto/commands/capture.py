@@ -11,7 +11,8 @@ and aren't there, or that came again with other values. If a byte was captured s
 as the statements in it: some clients write them there as they are, and one may look like packets.
 
 Standard error has the number of frames that aren't read, by reason, and ends with the sums of frames, connections, requests and
-bytes of servers. Where it is a terminal, and standard output is none, a line says how far the capture is read. Memory doesn't grow with the capture, nor with an answer.
+bytes of servers. Where it is a terminal, and standard output is none, a line says how far the capture is read. Memory doesn't
+grow with the capture, nor with an answer.
 
 The status is the greatest of these: 0 if every answer is whole and there is nothing else to report; 3 if the server reported an
 error in a response, or a response was cancelled; 4 if something can't be read; 5 if a read, a write or the program failed, or the
@@ -239,7 +240,8 @@ def arguments(words: list[str]) -> argparse.Namespace:
     parser = parser_of("capture", __doc__)
     add = parser.add_argument
     add("--port", metavar="N", type=number_in(1, 65535), action="append", help="port of a server (default: 1433); repeat it for several")
-    add("--packets", action="store_true", help="keep the packets of each response beside its text, for columns, adapt and many; with --adapt those rewritten")
+    add("--packets", action="store_true",
+        help="keep the packets of each response beside its text, for columns, adapt and many; with --adapt those rewritten")
     add_options_of_program(parser)
     add("file", metavar="FILE", help="the capture or dump, or - for standard input")
     add("out", metavar="OUT", help="the folder of the texts, which is made if it isn't there")

@@ -24,7 +24,8 @@ def arguments(words: list[str]) -> argparse.Namespace:
     parser.add_argument("--as", dest="form", choices=["csv", *TABLES], default="csv", help="form of the output (default: csv)")
     parser.add_argument(
         "--table", metavar="NAME", type=named, action=Once,
-        help="with --as, the name of the table, or SCHEMA.NAME (default: response; response{} for several sets); {} is the number of the set, from 1")
+        help="with --as, the name of the table, or SCHEMA.NAME (default: response; response{} for several sets); {} is the number of "
+             "the set, from 1")
     parser.add_argument("file", metavar="FILE", nargs="?", default="-", help="the response (default, or -: standard input)")
     asked = parser.parse_args(words)
     if asked.table and asked.form == "csv":

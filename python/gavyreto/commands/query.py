@@ -8,9 +8,10 @@ The login is by SQL authentication with -U, whose password is read from the vari
 -E; or by an access token of Entra ID, from the file of --access-token-file or the variable SQLCMDACCESSTOKEN. The server's
 certificate is verified, and everything is encrypted unless --encrypt asks for less; tickets and tokens are never sent without.
 
-With --tables each line of a file has a name, and behind it a statement, or a table of which all rows are read; alone it is a table.
-Tables share connections, and a statement has one of its own, since what it sets would hold for others. The answer gets the file NAME.csv in the folder of -o once it is whole, or NAME.csv.partial if it is refused, which ends nothing. The
-table outcomes.csv there gets a line for each as it ends: name, status, line, text, its bytes and change, when it was begun, statement,
+With --tables each line of a file has a name, and behind it a statement, or a table of which all rows are read; alone it is a
+table. Tables share connections, and a statement has one of its own, since what it sets would hold for others. The answer gets the
+file NAME.csv in the folder of -o once it is whole, or NAME.csv.partial if it is refused, which ends nothing. The table
+outcomes.csv there gets a line for each as it ends: name, status, line, text, its bytes and change, when it was begun, statement,
 options and program. Begun again all are asked again. The status is the greatest of all.
 
 Standard error gets the lines of tds_replay. The status is 0; 3 if the server reported an error, refused the login, or ended an
@@ -192,7 +193,8 @@ def ask_tables(asked: argparse.Namespace, of_environment: str) -> int:
         if any(is_one_file(os.path.join(asked.output, name), source) for name in outcomes.texts_of(item.name)):
             raise Stopped(f"{asked.tables} would be the text of {item.name}: name another folder", REFUSED)
     password = password_of(asked, of_environment)
-    asked.options = f"-S {asked.server.host},{asked.server.port or asked.server.instance or PORT} -d {asked.database} --charset {asked.charset}{' --adapt' if asked.adapt else ''}"
+    port = asked.server.port or asked.server.instance or PORT
+    asked.options = f"-S {asked.server.host},{port} -d {asked.database} --charset {asked.charset}{' --adapt' if asked.adapt else ''}"
     return tables.export(asked, items, lambda: session_of(asked, password))
 
 
@@ -215,9 +217,10 @@ def session_of(asked: argparse.Namespace, password: str) -> Session:
     found = asked.server
     try:
         return connection.log_in_to(
-            found.name(), user=asked.user or "", password=password, port=found.port or PORT, integrated=asked.integrated, access_token=asked.token, database=asked.database, encrypt=asked.encrypt,
-            certificates=asked.certificates, certificate_name=asked.certificate_name or "", trust_server=asked.trust_server,
-            packet_size=asked.packet_size, seconds=asked.seconds, login_seconds=asked.login_seconds)
+            found.name(), user=asked.user or "", password=password, port=found.port or PORT, integrated=asked.integrated,
+            access_token=asked.token, database=asked.database, encrypt=asked.encrypt, certificates=asked.certificates,
+            certificate_name=asked.certificate_name or "", trust_server=asked.trust_server, packet_size=asked.packet_size,
+            seconds=asked.seconds, login_seconds=asked.login_seconds)
     except ValueError as refused:
         raise Stopped(str(refused), REFUSED) from None
 
@@ -304,7 +307,8 @@ def add_outputs(add: Callable[..., object]) -> None:
     add("-j", "--jobs", metavar="N", type=number_in(1, 1024), default=1, help="with --tables, the connections (default: 1)")
     add("--retries", metavar="N", type=number_in(0, 1000), default=0,
         help="with --tables, how often a statement is sent again whose connection broke (default: 0)")
-    add("--packets", metavar="FILE", type=named, action=Once, help="keep the packets of each answer in a file, as they came, also with --adapt; {} is the number of the statement")
+    add("--packets", metavar="FILE", type=named, action=Once,
+        help="keep the packets of each answer in a file, as they came, also with --adapt; {} is the number of the statement")
 
 
 def add_connection(add: Callable[..., object]) -> None:
