@@ -61,11 +61,8 @@ class Connections:
         except Other:
             accounts.elsewhere += 1
             return
-        except Foreign as kind:
-            accounts.count(accounts.foreign, str(kind))
-            return
-        except Unread as why:
-            accounts.count(accounts.unread, str(why))
+        except (Foreign, Unread) as why:
+            accounts.count(accounts.foreign if isinstance(why, Foreign) else accounts.unread, str(why))
             return
         if run and run.add(segment):
             accounts.in_connections += 1
