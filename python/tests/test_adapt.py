@@ -384,7 +384,7 @@ class Commands(Live):
             (gzip.compress(wire("float")), "compressed: gunzip -c gives what is in it"), (lzma.compress(b"x"), "compressed: xz -dc gives what is in it"),
             (b'"a"\r\n1\r\n', "a text that tds_replay wrote, and no packets: gavyreto.read reads it"), (b"SELECT 1\n", "a text, and no packets"),
             (b"net.c:100:Received packet\n0000 04 01\n", "the dump of a client of FreeTDS: gavyreto capture reads it"),
-            (tds.packet(1, tds.statement("SELECT 1")), "what a client sent: the packets of the server are needed"), (b"\x17\x03\x03\0\x01x", "encrypted: the bytes after decryption are needed"),
+            (b"", "empty"), (tds.packet(1, tds.statement("SELECT 1")), "what a client sent: the packets of the server are needed"), (b"\x17\x03\x03\0\x01x", "encrypted: the bytes after decryption are needed"),
             (b"\xFF\xFE", "no response: its first byte is 0xff, and that of a packet of a server is 0x04"),
         ):
             with open(self.path("it"), "wb") as file:

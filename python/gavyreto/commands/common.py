@@ -302,8 +302,10 @@ def open_response(name: str) -> io.BufferedReader:
 
 
 def other_than_response(head: bytes) -> str:
-    """What a file is that begins like this, and what reads it; "" for a response, or if nothing is there."""
-    if not head or head[0] == tds.PacketType.ANSWER:
+    """What a file is that begins like this, and what reads it; "" for a response."""
+    if not head:
+        return "empty"
+    if head[0] == tds.PacketType.ANSWER:
         return ""
     known = next((what for magic, what in BEGINNINGS.items() if head.startswith(magic)), None)
     if known:
