@@ -15,7 +15,7 @@ from typing import IO, Any, Callable, Generator, Generic, Optional, Sequence, Ty
 from unicodedata import normalize
 
 from gavyreto.commands import common
-from gavyreto.commands.common import STANDARD_ERROR, Stopped, cause_of, is_one_file, line, rename, tell, write
+from gavyreto.commands.common import STANDARD_ERROR, Stopped, cause_of, is_one_file, line, relative, rename, tell, write
 from gavyreto.places import mode_of
 from gavyreto.program import BAD_INPUT, DECIDED, DONE, FAILED, REFUSED, SERVER_ERROR, OutputFailed
 from gavyreto.records import record_at
@@ -142,7 +142,7 @@ class Table(Generic[R]):
         """The name of the table, from the folder that the command runs in, once all is written. Raises `Stopped` if it hasn't all lines."""
         with open(self._path, "rb") as file:
             self._check(file.read() == self._header + b"".join(map(_line_of, self.records.values())))
-        return os.path.relpath(self._path)
+        return relative(self._path)
 
     def fill(self, records: Generator[R, None, None], progress: Progress) -> None:
         """Adds outcomes as they come. What is still under way where that ends early has ended before what it leaves is removed."""

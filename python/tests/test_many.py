@@ -530,6 +530,25 @@ class Here(Many):
         with open(self.path("out", "link.csv"), "rb") as text:
             self.assertTrue(text.read().startswith(b'"id","customer"'))
 
+    def test_what_is_above_a_link(self) -> None:
+        """A file and a folder of texts are those that other programs find by these names."""
+        self.store(1)
+        os.makedirs(self.path("real", "within"))
+        os.symlink("real/within", self.path("link"))
+        for place, data in (("real", KINDS), (".", wire("orders"))):
+            with open(self.path(place, "a"), "wb") as file:
+                file.write(data)
+        self.assertEqual(self.many("--program", PROGRAM, "link/../a", "in", "link/../out")[0], 0)
+        os.rename(self.path("real", "out"), self.path("out"))
+        self.assert_texts(["000", "a"])
+
+    def test_a_folder_to_run_in_that_is_removed(self) -> None:
+        self.store(1)
+        words = f"many --program {PROGRAM} {self.path('in')} {self.path('out')}"
+        command = f"mkdir gone; cd gone; rmdir ../gone; exec {sys.executable} -m gavyreto {words}"
+        came = subprocess.run(["sh", "-euc", command], cwd=self.folder, capture_output=True, check=False, **started())
+        self.assertEqual((came.returncode, came.stderr), (0, b"1 responses: 1 done, 0 with an error of the server, 0 refused, 0 failed\n"))
+
     def test_names_of_any_kind(self) -> None:
         """Names that aren't UTF-8, have line ends, quotes or controls, or are too long for a text."""
         self.store(1)

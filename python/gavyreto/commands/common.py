@@ -147,7 +147,7 @@ def ending_of(failure: BaseException) -> tuple[str, int]:
 def folder_of_texts(path: str) -> Iterator[None]:
     """Makes a folder if it isn't there, and those above it, and keeps it for this command. What fails leaves none that it made, unless
     something was written there. Raises `Stopped` if another command has it, or another folder has got its name."""
-    made, above = list[str](), os.path.abspath(path)
+    made, above = list[str](), absolute(path)
     while not os.path.lexists(above):
         made.append(above)
         above = os.path.dirname(above)
@@ -190,6 +190,22 @@ def lock_file(path: str, descriptor: int) -> None:
     """The same of a file, where its file system has locks."""
     with contextlib.suppress(OSError):
         lock(path, descriptor)
+
+
+def absolute(path: str) -> str:
+    """A path from the root, on which `..` behind a link is what the system takes for it: the folder that has what the link leads to."""
+    folder, name = os.path.split(path)
+    if os.pardir not in path.split(os.sep):
+        return os.path.abspath(path)
+    return os.path.realpath(path) if name == os.pardir else os.path.join(os.path.realpath(folder), name)
+
+
+def relative(path: str) -> str:
+    """A path from the folder that the command runs in, unless that was removed."""
+    try:
+        return os.path.relpath(path)
+    except FileNotFoundError:
+        return path
 
 
 def rename(path: str, target: str) -> None:

@@ -21,7 +21,9 @@ from concurrent.futures import FIRST_COMPLETED, Future, ThreadPoolExecutor, wait
 from typing import Any, Generator, Optional, Union
 
 from gavyreto import outcomes
-from gavyreto.commands.common import STANDARD_ERROR, STREAMS, Stopped, add_options_of_program, cause_of, checked_program, command_for, folder_of_texts, named, number_in, parser_of
+from gavyreto.commands.common import (
+    STANDARD_ERROR, STREAMS, Stopped, absolute, add_options_of_program, cause_of, checked_program, command_for, folder_of_texts, named, number_in, parser_of, relative,
+)
 from gavyreto.exporting import Record, end_all, export_file, kill_all, version_of
 from gavyreto.outcomes import TABLE, Progress, stamp_of, summed, texts_of
 from gavyreto.places import stats_of
@@ -86,7 +88,7 @@ def files_of(asked: argparse.Namespace) -> list[str]:
         inside = sorted(it.path for it in os.scandir(path) if os.path.join(folder, it.name) != out) if os.path.isdir(path) else [path]
         if not inside:
             raise Stopped(f"{path}: an empty folder", REFUSED)
-        found += [os.path.abspath(it) for it in inside]
+        found += map(absolute, inside)
     names: dict[str, str] = {}
     for file in found:
         other = names.setdefault(os.path.basename(file), file)
@@ -203,7 +205,7 @@ def export_left(files: list[str], asked: argparse.Namespace) -> int:
         table.begin(left)
         records = place.outcomes(left, asked.out, command, asked.charset if asked.adapt else None)
         table.fill(records, Progress("responses", len(files), len(files) - len(left)))
-    return summed("responses", [(os.path.relpath(file), table.records[file]) for file in files], table.shown())
+    return summed("responses", [(relative(file), table.records[file]) for file in files], table.shown())
 
 
 def arguments(words: list[str]) -> argparse.Namespace:
@@ -215,7 +217,7 @@ def arguments(words: list[str]) -> argparse.Namespace:
     add("files", metavar="FILE", nargs="+", type=named, help="responses, or folders of them")
     add("out", metavar="OUT", type=named, help="the folder of the texts, which is made if it isn't there")
     asked = parser.parse_args(words)
-    asked.out = os.path.abspath(asked.out)
+    asked.out = absolute(asked.out)
     return asked
 
 

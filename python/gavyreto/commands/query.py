@@ -32,8 +32,8 @@ from gavyreto import connection, program, tds
 from gavyreto.asking import Asking, Interrupt
 from gavyreto.commands import common
 from gavyreto.commands.common import (
-    STANDARD_INPUT, STANDARD_OUTPUT, Input, Once, Stopped, add_options_of_program, cause_of, check_input, checked_program, is_one_file, named, naming, needed, number_in, parser_of,
-    tell,
+    STANDARD_INPUT, STANDARD_OUTPUT, Input, Once, Stopped, absolute, add_options_of_program, cause_of, check_input, checked_program, is_one_file, named, naming, needed,
+    number_in, parser_of, tell,
 )
 from gavyreto.connection import Session
 from gavyreto.errors import Fault
@@ -403,7 +403,7 @@ def run(words: list[str]) -> int:
             raise Stopped("a login is needed: -U NAME, -E, --access-token-file FILE, or the variable SQLCMDUSER", REFUSED)
     if not asked.output:
         needed(STANDARD_OUTPUT)
-    asked.output = os.path.abspath(asked.output) if asked.tables else asked.output
+    asked.output = absolute(asked.output) if asked.tables else asked.output
     asked.program = checked_program(asked.program)
     if asked.tables:
         return ask_tables(asked, password)
