@@ -1,14 +1,17 @@
 """Result sets of a response, while the program reads it."""
 from __future__ import annotations
 
+import atexit
 import contextlib
 import errno
 import io
 import os
+import select
 import socket
 import stat
 import sys
 import threading
+import weakref
 from typing import Any, Callable, Optional, Protocol, Union, cast
 
 from gavyreto import tds
@@ -29,6 +32,7 @@ class Readable(Protocol):
 
 
 Source = Union[str, "os.PathLike[str]", bytes, bytearray, memoryview, int, socket.socket, Readable]
+SECONDS_TO_END = 0.2  # for which a thread is waited for that may be within a call of its source, to which nothing comes
 OF_DESCRIPTORS = (int, io.FileIO, socket.socket)  # read by their descriptors; a subclass, as ssl.SSLSocket, by its own method
 Copy = Callable[[], bool]  # hands the packets over: whether all of them were there
 Unfinished = Callable[[], Optional[str]]  # what there is to say of an answer that the server ended as cancelled or failed
@@ -87,6 +91,7 @@ class Feeding:
         self._copy, self._program = copy, program
         self._thread = threading.Thread(target=self._run, daemon=True)
         self._thread.start()
+        _feedings.add(self)
 
     def _run(self) -> None:
         is_whole = False
@@ -102,10 +107,25 @@ class Feeding:
             if not is_whole:
                 self._program.cut()
 
-    def join(self) -> None:
+    def join(self, seconds: Optional[float] = None) -> None:
         """Waits for its end, unless it is the thread that calls, in which what isn't used may be looked for, or Python itself ends."""
         if self._thread is not threading.current_thread() and not sys.is_finalizing():
-            self._thread.join()
+            self._thread.join(seconds)
+
+    def end(self) -> None:
+        """Ends it where Python will end, for which a source whose lock it has then would be a fatal error."""
+        if self._thread.is_alive():
+            self._program.kill()
+            self.join(SECONDS_TO_END)
+
+
+_feedings = weakref.WeakSet[Feeding]()
+
+
+@atexit.register
+def _end_all() -> None:
+    for it in list(_feedings):
+        it.end()
 
 
 class Response(Sets):
@@ -145,6 +165,8 @@ class Response(Sets):
         if self._held and (self._is_closed or self._failure):
             self._held.close()  # at the end of the response its descriptions may still be asked for
         self._program.close()
+        if self._feeding:
+            self._feeding.join(SECONDS_TO_END)
 
     def _judge_end(self, rest: str) -> None:
         ending = cast(Ending, self._program.ending)
@@ -181,8 +203,8 @@ def export(
 
     source       the packets: the path of a file, the bytes themselves, or an open binary file, socket or descriptor, of
                  which exactly one response is read, from where it is. A descriptor, an unbuffered file and a socket have to
-                 block. A buffered file of a pipe waits in its `close` for bytes that are asked for: to leave a reading of
-                 one by Ctrl-C, give its descriptor
+                 block. A buffered file of a pipe to which nothing has come waits in its `close` for the first byte: to leave
+                 a reading of one by Ctrl-C, give its descriptor
     dates        True if dates, times and GUIDs become date, time, datetime and UUID, but for columns of seven digits of a
                  second; "truncate" if these do too, and lose the seventh
     adapt        whether columns that the program refuses are rewritten, as the command adapt does; float and real are float then,
@@ -232,7 +254,7 @@ def _reading(source: Source) -> tuple[Read, Callable[[], object]]:
         return _watched(lambda most: own.read(most) or b"", own)
     read, descriptor = _read_of(source), _file_of(source)
     if descriptor < 0:
-        return read, lambda: None
+        return _guarded(_patient(source)) if _is_buffer(source) and type(source) is io.BufferedReader else read, lambda: None
     held, at = _held_by(source)
     return _watched(read, owned(open(os.dup(descriptor), "rb", buffering=0)), held, at)
 
@@ -257,9 +279,32 @@ def _file_of(source: Any) -> int:
     return -1
 
 
+def _is_buffer(source: Any) -> bool:
+    """Whether an object is the buffer of a file that is read by its descriptor."""
+    return type(getattr(source, "raw", None)) is io.FileIO
+
+
 def _held_by(source: Any) -> tuple[bytes, int]:
     """What the buffer of a file holds of it, and from which place on."""
-    return (source.peek(), source.tell()) if type(getattr(source, "raw", None)) is io.FileIO else (b"", 0)
+    return (source.peek(), source.tell()) if _is_buffer(source) else (b"", 0)
+
+
+def _patient(source: Any) -> Read:
+    """What reads a buffered file of a pipe or a terminal, whose lock nobody has while nothing comes: what it holds, and then what comes."""
+    held = -1  # bytes of its buffer, once something has come
+
+    def read(most: int) -> bytes:
+        nonlocal held
+        held = len(source.peek()) if held < 0 else held
+        if not held:
+            events = select.poll()
+            events.register(source.fileno(), select.POLLIN)
+            events.poll()
+        data: bytes = source.read1(min(most, held or most))
+        held = max(held - len(data), 0)
+        return data
+
+    return read
 
 
 def adapt_all(adapter: Adapter, found: NotedDescriptions) -> bool:

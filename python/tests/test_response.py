@@ -9,6 +9,7 @@ import io
 import os
 import pickle
 import random
+import select
 import socket
 import subprocess
 import sys
@@ -152,6 +153,29 @@ class SetsAndRows(unittest.TestCase):
                     self.assertEqual(next(came.only())[0], 1)
                     os.set_blocking(writer, True)
                     pipe.close()
+
+    def test_a_buffered_file_that_is_left(self) -> None:
+        """Nobody has its lock then: neither its `close` nor the end of Python waits for what doesn't come."""
+        reader, writer = os.pipe()
+        with open(reader, "rb") as source, open(writer, "wb", buffering=0) as pipe:
+            pipe.write(wire("orders", 2000)[:60_000])
+            with export(source) as came:
+                self.assertEqual(next(came.only())[0], 1)
+                wait_for(lambda: not select.select([reader], [], [], 0)[0])
+                time.sleep(0.1)  # for what the buffer holds
+            closing = threading.Thread(target=source.close, daemon=True)
+            closing.start()
+            closing.join(20)
+            self.assertFalse(closing.is_alive())
+        script = "import sys, gavyreto; it = gavyreto.export(sys.stdin.buffer, program=sys.argv[1]); print(next(it.only())[0])"
+        with tempfile.TemporaryFile() as file:
+            file.write(wire("orders", 60_000))
+            for place in range(24):
+                file.seek(0)
+                command = [sys.executable, "-c", script + "; it.close()" * (place % 2), PROGRAM]
+                own: dict[str, Any] = {**started(), "stdin": file}
+                came_of = subprocess.run(command, capture_output=True, check=False, **own)
+                self.assertEqual((came_of.returncode, came_of.stdout, came_of.stderr), (0, b"1\n", b""))
 
 
 TYPES = (
