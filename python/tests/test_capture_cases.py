@@ -1,9 +1,12 @@
 """Tests of `capture` by captures by chance: each answer is exact, or something is told; of harmless ones nothing is."""
 from __future__ import annotations
 
+import gzip
 import io
 import os
+import random
 import unittest
+import zlib
 from collections import Counter
 from typing import NamedTuple
 
@@ -72,7 +75,7 @@ def read(data: bytes) -> Read:
     desk, accounts, drops = Desk(), Accounts(), files.Drops()
     connections = Connections({1433}, desk, accounts)
     try:
-        for frame in files.frames(files.Source(io.BytesIO(data)), drops):
+        for frame in files.frames(files.source_of(io.BytesIO(data)), drops):
             connections.take(frame)
     except files.CutShort as cut:
         desk.told.append(str(cut))
@@ -107,6 +110,17 @@ class Generated(unittest.TestCase):
     def test_each_answer_is_exact_or_told(self) -> None:
         found = [it for it in map(wrong, map(case, range(CASES))) if it]
         self.assertEqual("\n".join(found[:20]), "")
+
+    def test_what_is_packed_and_cut(self) -> None:
+        """Of a file of gzip that ends too early each frame counts that is there, and it is told."""
+        numbers = random.Random(3)
+        for seed in range(30):
+            packed = gzip.compress(case(seed).data)
+            cut = packed[:numbers.randrange(len(packed) // 2, len(packed))]
+            came, plain = read(cut), read(zlib.decompressobj(wbits=31).decompress(cut))
+            with self.subTest(seed):
+                self.assertEqual((came.answers, came.accounts.line()), (plain.answers, plain.accounts.line()))
+                self.assertIn("the compressed file ends too early", " ".join(came.told))
 
 
 if __name__ == "__main__":

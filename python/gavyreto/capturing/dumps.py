@@ -146,7 +146,9 @@ def take_recorded(source: Source, desk: Desk, accounts: Accounts) -> None:
     """Takes all that a server sent on one connection."""
     accounts.connections += 1
     answers, place = Answers(Sides(), desk, accounts), 0
-    while data := source.read(BLOCK):
-        answers.take(Piece(place, data, 0, 0))
-        place += len(data)
-    answers.finish()
+    try:
+        while data := source.read(BLOCK):
+            answers.take(Piece(place, data, 0, 0))
+            place += len(data)
+    finally:
+        answers.finish()

@@ -8,7 +8,7 @@ import struct
 import zlib
 from collections import Counter
 from collections.abc import Iterator
-from typing import IO, Callable, NamedTuple, Union, cast
+from typing import IO, Any, NamedTuple, Union, cast
 
 GZIP = b"\x1F\x8B"
 PCAP = {  # by the first bytes: the order of bytes, and the units of time in a second
@@ -41,21 +41,38 @@ class CutShort(Exception):
     """A capture ends within a frame, or goes on with what is none. The message says which."""
 
 
-class Source:
-    """The bytes of a file or a pipe, of which the first can be looked at before they are read."""
+class Unpacked(io.RawIOBase):
+    """What gzip packed, as far as it can be unpacked; what is wrong then is told at its end."""
 
-    def __init__(self, file: Union[IO[bytes], gzip.GzipFile]) -> None:
-        self._file = io.BufferedReader(cast(io.RawIOBase, file), BLOCK)
-        self._head = self._some(HEAD)
+    def __init__(self, packed: Source) -> None:
+        self._file = gzip.GzipFile(fileobj=cast(IO[bytes], packed))
+        self.wrong = ""
 
-    def _some(self, length: int) -> bytes:
-        return self._checked(self._file.read, length)
+    def readable(self) -> bool:
+        return True
 
-    def _checked(self, read: Callable[[int], bytes], length: int) -> bytes:
+    def readinto(self, room: Any) -> int:
+        data = b""
         try:
-            return read(length)
+            data = self._file.read1(len(room))
         except (EOFError, zlib.error, gzip.BadGzipFile) as cut:
-            raise CutShort(f"the compressed file ends too early, or is damaged: {cut}") from None
+            self.wrong = f"the compressed file ends too early, or is damaged: {cut}"
+        room[:len(data)] = data
+        return len(data)
+
+
+class Source:
+    """The bytes of a file or a pipe, of which the first can be looked at before they are read. Raises `CutShort` where nothing is left of
+    what gzip packed, and more was there."""
+
+    def __init__(self, file: Union[IO[bytes], Unpacked]) -> None:
+        self._raw, self._file = file, io.BufferedReader(cast(io.RawIOBase, file), BLOCK)
+        self._head = self._file.read(HEAD)
+
+    def _checked(self, data: bytes) -> bytes:
+        if not data and isinstance(self._raw, Unpacked) and self._raw.wrong:
+            raise CutShort(self._raw.wrong)
+        return data
 
     def head(self) -> bytes:
         """The first bytes, which `read` gives too."""
@@ -64,14 +81,14 @@ class Source:
     def read(self, length: int) -> bytes:
         """As many bytes, or fewer at the end."""
         if not self._head:
-            return self._some(length)
+            return self._checked(self._file.read(length))
         data, self._head = self._head[:length], self._head[length:]
-        return data if len(data) == length else data + self._some(length - len(data))
+        return data if len(data) == length else data + self._file.read(length - len(data))
 
     def more(self) -> bytes:
         """The next bytes, as many as are there, or none at the end."""
         data, self._head = self._head, b""
-        return data or self._checked(self._file.read1, BLOCK)
+        return data or self._checked(self._file.read1(BLOCK))
 
     def lines(self) -> Iterator[bytes]:
         """The lines, each at most as long as a line of a dump may be; a longer one comes in several."""
@@ -89,7 +106,7 @@ class Source:
 def source_of(file: IO[bytes]) -> Source:
     """The bytes of a file or a pipe, or what gzip made of them."""
     source = Source(file)
-    return Source(gzip.GzipFile(fileobj=cast(IO[bytes], source))) if source.head().startswith(GZIP) else source
+    return Source(Unpacked(source)) if source.head().startswith(GZIP) else source
 
 
 def is_capture(head: bytes) -> bool:
@@ -131,6 +148,7 @@ def frames(source: Source, drops: Drops) -> Iterator[Frame]:
 def _need(source: Source, length: int, what: str) -> bytes:
     data = source.read(length)
     if len(data) < length:
+        source.more()  # which tells what is wrong, if that isn't the capture's own end
         raise CutShort(f"the capture ends within {what}")
     return data
 
@@ -168,8 +186,7 @@ class _Interface(NamedTuple):
 def _pcapng(source: Source, drops: Drops) -> Iterator[Frame]:
     order, interfaces = "<", list[_Interface]()
     while head := source.read(8):
-        if len(head) < 8:
-            raise CutShort("the capture ends within a block's header")
+        head += _need(source, 8 - len(head), "a block's header") if len(head) < 8 else b""
         if head[:4] == PCAPNG:
             mark = _need(source, 4, "a section's header")
             if mark not in ORDERS:
