@@ -11,6 +11,7 @@ import socket
 import stat
 import sys
 import threading
+import time
 import weakref
 from typing import Any, Callable, Optional, Protocol, Union, cast
 
@@ -112,11 +113,12 @@ class Feeding:
         if self._thread is not threading.current_thread() and not sys.is_finalizing():
             self._thread.join(seconds)
 
-    def end(self) -> None:
-        """Ends it where Python will end, for which a source whose lock it has then would be a fatal error."""
-        if self._thread.is_alive():
+    def kill(self) -> bool:
+        """Ends the program. Returns whether it was under way."""
+        is_alive = self._thread.is_alive()
+        if is_alive:
             self._program.kill()
-            self.join(SECONDS_TO_END)
+        return is_alive
 
 
 _feedings = weakref.WeakSet[Feeding]()
@@ -124,8 +126,10 @@ _feedings = weakref.WeakSet[Feeding]()
 
 @atexit.register
 def _end_all() -> None:
-    for it in list(_feedings):
-        it.end()
+    """Ends them where Python will end, for which a source whose lock a thread has then would be a fatal error."""
+    alive, until = [it for it in list(_feedings) if it.kill()], time.monotonic() + SECONDS_TO_END
+    for it in alive:
+        it.join(max(until - time.monotonic(), 0))
 
 
 class Response(Sets):
