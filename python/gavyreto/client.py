@@ -242,21 +242,23 @@ def connect(
     server: str, *, user: str = "", password: str = "", integrated: bool = False, access_token: Optional[str] = None, port: int = PORT,
     database: str = "", encrypt: str = ENCRYPT[0], certificates: Optional[str] = None, certificate_name: str = "", trust_server: bool = False,
     packet_size: int = PACKET_SIZE_ASKED, seconds: float = SECONDS, login_seconds: float = LOGIN_SECONDS,
+    application_intent: str = "ReadWrite",
 ) -> Connection:
     """Connects to a server, and logs in: by user and password, by Kerberos, or by an access token.
 
-    server            the name that its certificate has, or an address; HOST,PORT; HOST\\INSTANCE, whose port is looked up; or a
-                      URL, mssql://USER@HOST:PORT/DATABASE?NAME=VALUE&.., without a password: what it says goes before arguments
-    integrated        whether the login is by Kerberos, for which Python's module gssapi and a ticket have to be there
-    access_token      a token of Entra ID
-    database          without it that of the user
-    encrypt           minimum encryption: "all", "login" or "none"; a server that asks for more gets it
-    certificates      a file of authorities to trust in place of the system's, in PEM
-    certificate_name  the name that the certificate has, without it `server`; also that of a server to which it redirects
-    trust_server      whether the certificate isn't verified: anyone between can read all then
-    packet_size       bytes that are asked for, 512 to 32767
-    seconds           the longest that the server may be silent
-    login_seconds     the longest from the look-up of the name to the end of the login
+    server              the name that its certificate has, or an address; HOST,PORT; HOST\\INSTANCE, whose port is looked up; or a
+                        URL, mssql://USER@HOST:PORT/DATABASE?NAME=VALUE&.., without a password: what it says goes before arguments
+    integrated          whether the login is by Kerberos, for which Python's module gssapi and a ticket have to be there
+    access_token        a token of Entra ID
+    database            without it that of the user
+    encrypt             minimum encryption: "all", "login" or "none"; a server that asks for more gets it
+    certificates        a file of authorities to trust in place of the system's, in PEM
+    certificate_name    the name that the certificate has, without it `server`; also that of a server to which it redirects
+    trust_server        whether the certificate isn't verified: anyone between can read all then
+    packet_size         bytes that are asked for, 512 to 32767
+    seconds             the longest that the server may be silent
+    login_seconds       the longest from the look-up of the name to the end of the login
+    application_intent  "ReadOnly" asks an availability group for a readable secondary, by the database; another server ignores it
 
     Raises ConnectionFailed, of which TimedOut, CertificateRefused, EncryptionRefused and LoginRefused are kinds, BadAnswer if what
     answers is no such server, and ValueError or TypeError if an argument is none. A redirection is followed once, and only if it came
@@ -283,8 +285,8 @@ def query(
     statement: str, server: str, *, user: str = "", password: str = "", integrated: bool = False, access_token: Optional[str] = None,
     port: int = PORT, database: str = "", encrypt: str = ENCRYPT[0], certificates: Optional[str] = None, certificate_name: str = "",
     trust_server: bool = False, packet_size: int = PACKET_SIZE_ASKED, seconds: float = SECONDS, login_seconds: float = LOGIN_SECONDS,
-    dates: Dates = False, adapt: bool = False, column_room: int = COLUMN_ROOM, max_wire: int = MAX_WIRE, charset: str = CHARSETS[0],
-    program: str = PROGRAM,
+    application_intent: str = "ReadWrite", dates: Dates = False, adapt: bool = False, column_room: int = COLUMN_ROOM,
+    max_wire: int = MAX_WIRE, charset: str = CHARSETS[0], program: str = PROGRAM,
 ) -> Response:
     """Asks a server one statement, on a connection of its own, and returns an iterator over the result sets of the answer:
     what `connect` and `Connection.query` do with the same arguments."""
@@ -293,7 +295,7 @@ def query(
     connection = connect(
         server, user=user, password=password, integrated=integrated, access_token=access_token, port=port, database=database, encrypt=encrypt,
         certificates=certificates, certificate_name=certificate_name, trust_server=trust_server, packet_size=packet_size, seconds=seconds,
-        login_seconds=login_seconds)
+        login_seconds=login_seconds, application_intent=application_intent)
     try:
         answer = connection.query(
             statement, dates=dates, adapt=adapt, column_room=column_room, max_wire=max_wire, charset=charset, program=path)

@@ -21,6 +21,7 @@ from gavyreto.where import BROWSER, port_of
 
 SECONDS, LOGIN_SECONDS, MOST_SECONDS = 300, 15, 86400
 ENCRYPT = ("all", "login", "none")
+INTENTS = ("readwrite", "readonly")  # what an application may intend, in small letters
 BLOCK = 1 << 18  # bytes that are received at once, at most
 UNASKED = "the server sent bytes that weren't asked for"
 LONGEST_MESSAGE = 1 << 20  # of those that are read whole: greetings and logins
@@ -589,23 +590,28 @@ def check_number(kind: type, least: int, most: int, **given: float) -> None:
 def log_in_to(
     server: str, *, user: str, password: str, port: int, database: str, encrypt: str, certificates: Optional[str], certificate_name: str,
     trust_server: bool, packet_size: int, seconds: float, login_seconds: float, integrated: bool, access_token: Optional[str],
+    application_intent: str,
 ) -> Session:
     """Connects to a server, and logs in: what `gavyreto.connect` does with the same arguments."""
     token = "" if access_token is None else access_token
-    check_type(str, server=server, user=user, password=password, database=database, certificate_name=certificate_name, access_token=token)
+    check_type(str, server=server, user=user, password=password, database=database, certificate_name=certificate_name, access_token=token,
+               application_intent=application_intent)
     check_type(bool, trust_server=trust_server, integrated=integrated)
     check_number(int, 1, 65535, port=port)
     check_number(int, tds.LEAST_PACKET_SIZE, tds.GREATEST_PACKET_SIZE, packet_size=packet_size)
     check_number(float, 0, MOST_SECONDS, seconds=seconds, login_seconds=login_seconds)
     if encrypt not in ENCRYPT:
         raise ValueError(f"encrypt is one of {', '.join(ENCRYPT)}, not {encrypt}")
+    intent = application_intent.lower()
+    if intent not in INTENTS:
+        raise ValueError(f"application_intent is ReadWrite or ReadOnly, not {application_intent}")
     if integrated + (access_token is not None) + bool(user or password) > 1:
         raise ValueError("a login is by user and password, integrated, or by an access token: one of them")
     proving = functools.partial(proof_of, integrated, None if access_token is None else checked_token(access_token))
     host, _, instance = server.partition("\\")
     here = Server(host, port, certificate_name or host, encrypt, contexts_of(certificates, trust_server), seconds, login_seconds,
                   time.monotonic() + login_seconds, instance)
-    login = tds.Login(socket.gethostname(), user, hidden(password), "gavyreto", server, "", "", database, packet_size)
+    login = tds.Login(socket.gethostname(), user, hidden(password), "gavyreto", server, "", "", database, packet_size, intent == INTENTS[1])
     here = here.found()
     channel, accepted = _session(here, login, proving)
     if accepted.routing:

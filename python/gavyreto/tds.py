@@ -106,6 +106,7 @@ MOST_OF_MESSAGE = 512  # bytes of UTF-8 of a message in a line
 ENCRYPTION, TOKEN_REQUIRED = 1, 6  # the options ENCRYPTION and FEDAUTHREQUIRED of a PRELOGIN
 FED_AUTH, SECURITY_TOKEN = 0x02, 0x01  # a feature of a LOGIN7, and the library that has the token already
 MOST_UNITS = 128  # of a name in a LOGIN7 (MS-TDS, LOGIN7)
+READ_ONLY_INTENT = 0x20  # fReadOnlyIntent, of its TypeFlags
 
 
 # What a client sends (MS-TDS, PRELOGIN, LOGIN7, SQLBatch, Attention).
@@ -134,7 +135,7 @@ def options_of(payload: bytes) -> dict[int, int]:
 
 
 class Login(NamedTuple):
-    """The texts of a LOGIN7, in its order, and the packet size that is asked for, in bytes."""
+    """The texts of a LOGIN7, in its order, the packet size that is asked for, in bytes, and whether nothing but reading is intended."""
 
     host: str
     user: str
@@ -145,6 +146,7 @@ class Login(NamedTuple):
     language: str
     database: str
     packet_size: int
+    is_read_only: bool = False
 
 
 def _checked_units(what: str, text: str, most: Optional[int] = None) -> bytes:
@@ -188,7 +190,8 @@ def login(asked: Login, process: int, ticket: bytes = b"", token: Optional[bytes
         struct.pack_into("<HH", fixed, 56, _FIXED + len(data), 4)
         data = Hidden(data + struct.pack("<I", _FIXED + len(data) + 4) + _feature_of(token, echoes))
     struct.pack_into("<I4sIIII", fixed, 0, _FIXED + len(data), VERSION[::-1], asked.packet_size, 0, process, 0)
-    struct.pack_into("<BBBBiI", fixed, 24, 0xE0, 0x83 if ticket else 0x03, 0, 0 if token is None else 0x10, 0, 0x0409)
+    type_flags = READ_ONLY_INTENT if asked.is_read_only else 0
+    struct.pack_into("<BBBBiI", fixed, 24, 0xE0, 0x83 if ticket else 0x03, type_flags, 0 if token is None else 0x10, 0, 0x0409)
     return Hidden(bytes(fixed) + data)
 
 

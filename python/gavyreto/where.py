@@ -12,7 +12,7 @@ from urllib.parse import parse_qsl, unquote, urlsplit
 PORT, BROWSER = 1433, 1434  # the second is that of SQL Server Browser, by UDP
 SCHEME = "mssql://"
 # What a URL may ask for behind its question mark, as options of `query` and arguments of `connect` are called.
-OF_URL = ("encrypt", "certificates", "certificate-name", "trust-server", "packet-size", "seconds", "login-seconds")
+OF_URL = ("encrypt", "certificates", "certificate-name", "trust-server", "packet-size", "seconds", "login-seconds", "application-intent")
 YES, NO = ("", "1", "true", "yes"), ("0", "false", "no")  # what trust-server may be
 NO_PASSWORD = "a password stands in it, where others see it: put it into the variable SQLCMDPASSWORD, or type it when it is asked for"
 MORE = re.compile("[@;=]")  # what no name of a server has, and what stands before a password in texts that other programs connect by

@@ -12,7 +12,7 @@ import tempfile
 import threading
 import unittest
 from collections.abc import Iterator
-from typing import Optional
+from typing import Any, Optional
 from unittest import mock
 
 import gavyreto
@@ -287,14 +287,69 @@ class Names(Live):
         for words in ("-U x", "-S localhost,$PORT"):
             self.assertEqual(self.beside((), f'exec $QUERY {words} {tail}').returncode, 2)
 
-    def messages(self) -> list[tuple[int, bytes]]:
+    def messages(self, name: str = "sent") -> list[tuple[int, bytes]]:
         """The packets that the client sent: their types and bodies."""
-        data, found, at = self.text("sent"), list[tuple[int, bytes]](), 0
+        data, found, at = self.text(name), list[tuple[int, bytes]](), 0
         while at < len(data):
             length = tds.length_of(data[at:at + 8])
             found.append((data[at], data[at + 8:at + length]))
             at += length
         return found
+
+    def intents(self, *names: str) -> list[bool]:
+        """Whether each login that servers recorded by these names is for nothing but reading; the records are emptied."""
+        found = [served.login_of(body).is_read_only for name in names for kind, body in self.messages(name) if kind == PacketType.LOGIN]
+        for name in names:
+            os.truncate(self.path(name), 0)
+        return found
+
+    def test_an_intent_to_read_is_told_to_each_server(self) -> None:
+        """To one that redirects, and to the one to which it does. Case doesn't matter."""
+        second = self.server(("--record", "second")).variables["PORT"]
+        first = ("--record", "first", "--route", f"localhost,{second}")
+        url = '"mssql://reader@localhost:$PORT/sales'
+        for words, wanted in (
+            ("", False), ("-K ReadWrite", False), ("-K ReadOnly", True), ("-Kreadonly", True), ("--application-intent READONLY", True),
+            (f'-S {url}?application-intent=readonly"', True), (f'-K ReadOnly -S {url}?application-intent=ReadWrite"', True),
+        ):
+            came = self.query(f"-C {words} 'SELECT * FROM orders'", first)
+            with self.subTest(words=words):
+                self.assertEqual((came.returncode, came.stdout), (0, ORDERS), came.stderr)
+                self.assertEqual(self.intents("first", "second"), [wanted, wanted])
+        self.addCleanup(shutil.rmtree, self.path("out"))
+        came = self.query("-C -K ReadOnly --tables - -o out", first, "mkdir out; echo orders | ")
+        self.assertEqual((came.returncode, self.intents("first", "second")), (0, [True, True]), came.stderr)
+        with open(self.path("out/outcomes.csv"), encoding="ascii") as file:
+            self.assertIn(" -K ReadOnly", file.read())
+
+    def test_an_intent_from_python(self) -> None:
+        """Where the server that is asked ignores it the answer is the same."""
+        server = self.server(("--record", "sent")).variables
+        url = f"mssql://reader@localhost:{server['PORT']}?trust-server=1"
+        cases: list[tuple[str, dict[str, Any], bool]] = [
+            (url, {}, False), (url, {"application_intent": "ReadWrite"}, False), (url, {"application_intent": "ReadOnly"}, True),
+            (url + "&application-intent=readonly", {}, True),
+        ]
+        for name, given, wanted in cases:
+            with gavyreto.connect(name, **given) as connection:
+                self.assertEqual(len(connection.query("SELECT * FROM orders", program=PROGRAM).only().fetchall()), 3)
+            self.assertEqual(len(gavyreto.query("SELECT * FROM orders", name, program=PROGRAM, **given).only().fetchall()), 3)
+            self.assertEqual(self.intents("sent"), [wanted, wanted])
+
+    def test_intents_that_are_none(self) -> None:
+        for words in ("-K Read", "-K ''", "--application-intent=only", "-S 'mssql://localhost?application-intent=Read'"):
+            came = self.query(f"-C {words} 'SELECT 1'", ("--record", "unsent"))
+            with self.subTest(words=words):
+                self.assertEqual((came.returncode, came.stdout), (2, b""))
+                self.assertRegex(came.stderr.decode(), r"\n[^\n]*argument -K/--application-intent: [^\n]*'readonly'\)?\n$")
+        self.assertFalse(os.path.exists(self.path("unsent")))
+        for intent in ("Read", "", "read only"):
+            with self.assertRaisesRegex(ValueError, f"^application_intent is ReadWrite or ReadOnly, not {intent}$"):
+                gavyreto.connect("localhost", user="u", application_intent=intent)
+        with self.assertRaisesRegex(ValueError, "^application_intent is ReadWrite or ReadOnly, not Read$"):
+            gavyreto.connect("mssql://localhost?application-intent=Read", user="u")
+        with self.assertRaisesRegex(TypeError, "^application_intent is a str, not bool$"):
+            gavyreto.connect("localhost", user="u", application_intent=True)  # type: ignore[arg-type]
 
     def test_a_url_from_python(self) -> None:
         server = self.server(()).variables

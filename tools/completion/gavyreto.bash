@@ -5,6 +5,7 @@ _gavyreto() {
     case $before in
         --charset) mapfile -t COMPREPLY < <(compgen -W "windows-1252 utf-8" -- "$word"); return ;;
         --encrypt) mapfile -t COMPREPLY < <(compgen -W "all login none" -- "$word"); return ;;
+        -K | --application-intent) mapfile -t COMPREPLY < <(compgen -W "ReadOnly ReadWrite" -- "$word"); return ;;
         --as) mapfile -t COMPREPLY < <(compgen -W "csv sqlite postgresql" -- "$word"); return ;;
         -S | --server | -U | --user | --retries | -d | --database | -N | --seconds | --login-seconds | --certificate-name | --packet-size | --column-room | --port | --table | -j | --jobs) return ;;
     esac
@@ -17,7 +18,7 @@ _gavyreto() {
         return
     fi
     case $command in
-        query) options="-S --server -U --user -E --integrated --access-token-file -d --database -i --input -o --output --tables -j --jobs --retries --packets --adapt --encrypt -N -C --trust-server --certificates --certificate-name --seconds --login-seconds --packet-size --column-room --charset --program" ;;
+        query) options="-S --server -U --user -E --integrated --access-token-file -d --database -i --input -o --output --tables -j --jobs --retries --packets --adapt --encrypt -N -C --trust-server --certificates --certificate-name --seconds --login-seconds -K --application-intent --packet-size --column-room --charset --program" ;;
         capture) options="--port --packets --adapt --column-room --charset --program" ;;
         columns) options="--as --table" ;;
         adapt) options="-o --output --charset" ;;

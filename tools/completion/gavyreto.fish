@@ -23,6 +23,7 @@ complete -c gavyreto -n '__fish_seen_subcommand_from query' -r -F -l certificate
 complete -c gavyreto -n '__fish_seen_subcommand_from query' -x -l certificate-name -d 'Name that the certificate has'
 complete -c gavyreto -n '__fish_seen_subcommand_from query' -x -l seconds -d 'Longest silence of the server'
 complete -c gavyreto -n '__fish_seen_subcommand_from query' -x -l login-seconds -d 'Longest login'
+complete -c gavyreto -n '__fish_seen_subcommand_from query' -x -s K -l application-intent -a 'ReadOnly ReadWrite' -d 'What is intended'
 complete -c gavyreto -n '__fish_seen_subcommand_from query' -x -l packet-size -d 'Packet size to ask for'
 complete -c gavyreto -n '__fish_seen_subcommand_from query adapt' -r -F -s o -l output -d 'File to write'
 complete -c gavyreto -n '__fish_seen_subcommand_from capture' -x -l port -d 'Port of servers'

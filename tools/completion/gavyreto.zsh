@@ -17,6 +17,7 @@ _gavyreto() {
         '--encrypt=[least encryption]:encryption:(all login none)' '-N[encrypt all, or the login]:encryption:(m o)'
         '(-C --trust-server)'{-C,--trust-server}'[trust any certificate]' '--certificates=[authorities to trust]:file:_files'
         '--certificate-name=[name that the certificate has]:name:' '--seconds=[longest silence of the server]:seconds:' '--login-seconds=[longest login]:seconds:'
+        '(-K --application-intent)'{-K,--application-intent=}'[what is intended]:intent:(ReadOnly ReadWrite)'
         '--packet-size=[packet size to ask for]:bytes:' '--packets=[file for the packets that came]:file:_files'
         '(-E --integrated)'{-E,--integrated}'[login by Kerberos]' '--access-token-file=[file with an access token]:file:_files'
         '--tables=[file of names and statements]:file:_files' '--retries=[how often after a broken connection]:number:'

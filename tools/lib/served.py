@@ -15,7 +15,7 @@ def login_of(payload: bytes) -> Login:
         start, units = struct.unpack_from("<HH", payload, place)
         data = payload[start:start + 2 * units]
         texts[name] = (bared(data) if name == "password" else data).decode("utf-16-le")
-    return Login(packet_size=struct.unpack_from("<I", payload, 8)[0], **texts)
+    return Login(packet_size=struct.unpack_from("<I", payload, 8)[0], is_read_only=bool(payload[26] & 0x20), **texts)
 
 
 def ticket_of(payload: bytes) -> bytes:

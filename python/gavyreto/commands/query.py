@@ -194,7 +194,8 @@ def ask_tables(asked: argparse.Namespace, of_environment: str) -> int:
             raise Stopped(f"{asked.tables} would be the text of {item.name}: name another folder", REFUSED)
     password = password_of(asked, of_environment)
     port = asked.server.port or asked.server.instance or PORT
-    asked.options = f"-S {asked.server.host},{port} -d {asked.database} --charset {asked.charset}{' --adapt' if asked.adapt else ''}"
+    intent = " -K ReadOnly" if asked.application_intent == "readonly" else ""
+    asked.options = f"-S {asked.server.host},{port} -d {asked.database}{intent} --charset {asked.charset}{' --adapt' if asked.adapt else ''}"
     return tables.export(asked, items, lambda: session_of(asked, password))
 
 
@@ -220,7 +221,7 @@ def session_of(asked: argparse.Namespace, password: str) -> Session:
             found.name(), user=asked.user or "", password=password, port=found.port or PORT, integrated=asked.integrated,
             access_token=asked.token, database=asked.database, encrypt=asked.encrypt, certificates=asked.certificates,
             certificate_name=asked.certificate_name or "", trust_server=asked.trust_server, packet_size=asked.packet_size,
-            seconds=asked.seconds, login_seconds=asked.login_seconds)
+            seconds=asked.seconds, login_seconds=asked.login_seconds, application_intent=asked.application_intent)
     except ValueError as refused:
         raise Stopped(str(refused), REFUSED) from None
 
@@ -324,6 +325,8 @@ def add_connection(add: Callable[..., object]) -> None:
     add("--login-seconds", metavar="N", type=number_in(1, connection.MOST_SECONDS), default=None,
         help=f"longest time from the look-up of HOST to the end of the login, 1 to {connection.MOST_SECONDS} (default: SQLCMDLOGINTIMEOUT, "
              f"else {connection.LOGIN_SECONDS})")
+    add("-K", "--application-intent", metavar="INTENT", choices=connection.INTENTS, type=str.lower, default=connection.INTENTS[0],
+        help="ReadOnly asks an availability group for a readable secondary, by the database of -d; another server ignores it (default: ReadWrite)")
     add("--packet-size", metavar="N", type=number_in(tds.LEAST_PACKET_SIZE, tds.GREATEST_PACKET_SIZE), default=program.PACKET_SIZE_ASKED,
         help=f"packet size to ask for, 512 to 32767 (default: {program.PACKET_SIZE_ASKED})")
 
