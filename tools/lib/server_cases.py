@@ -210,7 +210,7 @@ def refused(name: str, expression: str, kind: str, sample: str) -> Case:
     described = samples.Column("a", found.type_info[:1].hex(), found.cell, found.encode, str)
     described.type_info = found.type_info
     tokens = [samples.description([described]), samples.row([described], [found.values[0]]), done()]
-    return Case(name, f"SELECT {expression} AS a", "", rf"fault 10 RefusedColumn 0 ({kind}) at payload 3, written 0, unwritten 0\n", 4, tokens)
+    return Case(name, f"SELECT {expression} AS a", "", rf"fault 10 RefusedColumn 0 ({kind}) at payload 3, written 0, unwritten 0\n(--adapt reads [^\n]*\n)?", 4, tokens)
 
 
 def many_columns(count: int) -> Case:
