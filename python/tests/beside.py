@@ -2,6 +2,7 @@
 from __future__ import annotations
 
 import contextlib
+import gc
 import glob
 import os
 import random
@@ -129,12 +130,14 @@ def meanwhile(at: int, call: Callable[[], object], come: Callable[[], object]) -
         return step
 
     before = sys.gettrace()
+    gc.disable()  # what is left of other tests doesn't end within the call
     with mock.patch.object(sys, "unraisablehook"):  # Python drops an exception where a generator ends that is left
         sys.settrace(step)
         try:
             call()
         finally:
             sys.settrace(before)
+            gc.enable()
     return steps >= at
 
 
