@@ -64,11 +64,6 @@ rows_more {from = from} {bytes = bytes} {run = run} u _ _ _ _ within fits is giv
       rw (used_more run.used u bytes, is) (more_in_rows from y (gives columns knows y.0));
 }
 
--- the cells of a run within a row, none of which is NULL by its bit
-pub marked_in_rows : {row_format : RowFormat} {columns : List Column} {from to : Cursor} {bytes text : List ℕ}
-    → RunsMarked row_format columns (λ k. false) from to bytes text → RowsBetween row_format columns from to 0 bytes text
-marked_in_rows y = (y.ahead, λ charset cells set is. rw y.further (marked_writes _ y.count _ _ (rows_none is) (rw set at y.writes)))
-
 -- ---- the cells of an NBCROW
 
 module _ (charset : N.Charset) (columns : List Column) where

@@ -1,8 +1,8 @@
 // Cells of NBCROWs that are whole in the packet or NULL by their bit (MS-TDS, NBCROW).
-ghost use Rattle.std.specs.Prelude.{true, false, List, [], ◌≡◌, ◌+◌, ◌-◌, ◌*◌, ◌<◌, ◌≤◌, ◌≢◌, drop, length, min, take};
+ghost use Rattle.std.specs.Prelude.{true, false, List, [], ◌≡◌, ◌+◌, ◌-◌, ◌*◌, ◌<◌, ◌≤◌, drop, length, take};
 ghost use Rattle.tds_cells.specs.MarkedRows.{EndsNbcRows, WritesWholeRows};
 ghost use Rattle.tds_cells.specs.MarkedRuns.{BitsAre, CellsWritten, Covers, EndsFar, EndsLeft, WritesMarked, nulls_of};
-ghost use Rattle.tds_cells.specs.Runs.{LeavesNext, Ran};
+ghost use Rattle.tds_cells.specs.Runs.{Ran};
 ghost use Rattle.tds_cells.specs.declared.nulls.Nulls.TheVariants.{Unmarked};
 ghost use Rattle.tds_columns.specs.Description.{Column};
 ghost use Rattle.tds_values.specs.declared.charset.Charset.{Charset};
@@ -314,26 +314,6 @@ impl<'a> RowFormat<'a> {
         match nulls {
             Nulls::Unmarked => self.run_rows(at, bytes, to),
             Nulls::Marked(bitmap) => RowsSpan::in_row(self.run_nbc(at, bitmap, bytes, to)),
-        }
-    }
-
-    /// Writes such cells as far as the row's end. Of a ROW it may end before a column that the row format doesn't know.
-    #[inline(always)]
-    pub fn run_in_row(&self, at: &mut Cursor<'a>, nulls: Nulls, bytes: &[u8], to: &mut [u8]) -> Span
-        requires covers { Covers nulls self.now.count }
-        ensures within { (result.used ≤ length bytes.now) × (result.made ≤ length to.old) }
-        ensures ends { nulls.entry ≡ Unmarked → result.used ≡ 0 → at.old.column < self.now.count →
-            EndsLeft self.now (nulls_of Unmarked) at.old bytes.now (length to.old) }
-        ensures left { nulls.entry ≡ Unmarked → LeavesNext self.now at.old at.new (min self.now.known self.now.count)
-            (drop result.used bytes.now) (length to.old - result.made) }
-        ensures marked { nulls.entry ≢ Unmarked → EndsLeft self.now (nulls_of nulls.entry) at.new
-            (drop result.used bytes.now) (length to.old - result.made) }
-        ensures cells { CellsWritten self.now (nulls_of nulls.entry) at.old at.new
-            (take result.used bytes.now) (take result.made to.new) }
-    {
-        match nulls {
-            Nulls::Unmarked => self.run_cells::<false>(at, self.count(), bytes, to),
-            Nulls::Marked(bitmap) => self.run_nbc(at, bitmap, bytes, to),
         }
     }
 }

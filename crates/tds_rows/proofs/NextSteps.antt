@@ -5,8 +5,8 @@ use N.{◌-◌, ◌^◌, ◌≤◌, ◌<◌, [], ◌++◌, length, ap, before, P
 use N.Words.{rows}
 use N.NullSteps.{NearsCells, all_put, bitmap_cut, bitmap_nears, cell_nears, cell_stops, null_breaks, null_nears, cell_path, row_ends}
 use N.Paths.{At, Halt, halt, here, Path, RowStops, path_both, path_map, path_of, over, until}
-use N.RunPuts.{run_breaks}
 use Rattle.tds_packet.specs.declared.payload.Payload.{Payload}
+use Rattle.tds_cells.proofs.GrowingTexts.{rows_grow}
 use Rattle.tds_cells.proofs.RowTexts.{ends, ends_marked, coming, nulls_ahead, none_ahead}
 use Rattle.tds_cells.proofs.GrammarTexts.{writes_none}
 use Rattle.tds_cells.proofs.RowFormatSteps.{TakesColumn, last_one, next_column}
@@ -44,6 +44,9 @@ takes_apart a c x y takes =
       (grind arith),
       λ between. between,
     )
+
+takes_one : (a b : PayloadView) (bytes : List ℕ) → Takes a b bytes 0 → Takes a b bytes 1
+takes_one _ _ _ x = grind arith
 
 passes_apart : (p q : At) (a b m n : List ℕ) → Passes p q (a ++ b) (m ++ n) → (t : At) × Passes p t a m × Passes t q b n
 passes_apart p q a b m n x =
@@ -265,6 +268,73 @@ module _ {charset : Charset} {all : List Column} {p q : At} {count : ℕ} (x : R
   rows_more_stop y =
       rows_stop (rows_further x (path_of y.streams refl)) y.stops
 
+-- ---- a write of the text of ROWs failed
+
+-- it doesn't where nothing is put
+none_breaks : (h j : SinkView) {stop : Stop} → N.HasRoom h → N.WritesPrefix h j [] stop → ⊥
+none_breaks h j few breaks = grind (arith, N.common_steps)
+
+module _ (charset : Charset) (all : List Column) {s : N.RowsPart} (p : At) {e : Halt} (some : 0 < length all) (failed : e.failed ≡ true) where
+  -- so it failed in the text of an element of a row, since a token byte has none
+  row_breaks : (before : List (List Cell)) (part : RowPart) (x : N.WritesPrefixStreaming (rows N.PlainRow charset all) N.rows_so_far s p.seen e.seen
+      p.held e.held (record { before = before; at = part }) e.stop) (m : PayloadView) (place : ℕ)
+      → Takes m e.seen (x.element ++ x.ahead) 0 → until (RowStops charset part) (record { seen = m; place = place; held = x.middle }) e
+  row_breaks before part x m place takes = go part refl
+    where
+      broken : N.IsNext (N.Words.row charset) part x.element → N.row_so_far part ++ x.more ≡ N.row_so_far (N.row_add charset part x.element)
+          → until (RowStops charset part) (record { seen = m; place = place; held = x.middle }) e
+      broken next text_is = record {
+        at = part;
+        cause = N.inr (
+          record {
+            bytes = [];
+            element = x.element;
+            ahead = x.ahead;
+            spelt = N.Spelt-none _ part;
+            next = next;
+            takes = N.Takes-more m e.seen (x.element ++ x.ahead) 0 _ (omega arith) takes;
+            between = x.between;
+            middle = x.middle;
+            few = x.few;
+            puts = ([], N.append-nil (N.row_so_far part), N.Puts-none x.middle (omega (arith, x.puts.2.2.2)));
+            more = x.more;
+            text_is = text_is;
+            breaks = x.breaks;
+          },
+          failed,
+        );
+      }
+
+      go : (part' : RowPart) → part ≡ part' → until (RowStops charset part) (record { seen = m; place = place; held = x.middle }) e
+      go (N.WholeRow cells) is =
+          let none = (row_token N.PlainRow charset all before cells some).text_is in
+          absurd (none_breaks x.middle e.held x.few (rw (N.append_cancel_left _ x.more [] ((rw is at x.text_is) ∙ N.sym none)) at x.breaks))
+      go (N.Bitmap columns) is = broken (grind arith) (N.append_cancel_left (N.lines before) _ _ (grind (arith, N.append_assoc)))
+      go (N.InCell cells part' ks) is = broken (grind arith) (N.append_cancel_left (N.lines before) _ _ (grind (arith, N.append_assoc)))
+
+  -- what was put before it, and that row's stop
+  rows_break : {bytes made : List ℕ} {t : N.RowsPart} → N.Writes (rows N.PlainRow charset all) N.rows_so_far s bytes made t → Takes p.seen e.seen bytes 0
+      → N.IsBetween e.seen → N.HasRoom p.held → N.Counts p.held → N.WritesPrefix p.held e.held made e.stop
+      → (at : N.RowsPart) × (q : At) × Path (rows N.PlainRow charset all) N.rows_so_far s p q at × until (RowStops charset at.at) q e
+  rows_break {bytes = bytes} w takes between few delivered breaks =
+      let found = N.breaks_within (rows N.PlainRow charset all) N.rows_so_far (λ s. rows_grow charset N.PlainRow all some s.before s.at) s p.seen e.seen
+      p.held e.held e.stop between _ bytes [] _ w.spelt (rw N.append-nil (takes_one p.seen e.seen bytes takes)) few delivered w.text_is breaks in
+      let x = found.1 in
+      let apart = takes_apart p.seen e.seen x.bytes (x.element ++ x.ahead)
+      (N.subst (λ l. Takes p.seen e.seen l 0) (N.sym (N.append-nil bytes) ∙ N.sym found.2 ∙ N.append_assoc x.bytes x.element x.ahead) takes) in (
+        found.0,
+        record { seen = apart.0; place = p.place + length x.bytes; held = x.middle },
+        record {
+          bytes = x.bytes;
+          made = x.puts.0;
+          writes = record { spelt = x.spelt; text_is = x.puts.1 };
+          takes = N.Takes-more p.seen apart.0 x.bytes 0 _ (omega arith) apart.1;
+          puts = x.puts.2;
+          place_is = refl;
+        },
+        row_breaks found.0.before found.0.at x apart.0 _ apart.2,
+      )
+
 -- ---- ROWs, run after run and cell after cell
 
 -- ROWs were read and their lines put, so many whole ones and the first cells of the next, whose other columns are left.
@@ -408,17 +478,20 @@ module _ {R W : Type 0} {remaining : N.Tells R} {contents : N.Tells W} {first ol
 
     -- a write of their text failed
     pub run_fails : {stop : Stop} {columns : List Column} (nulls : N.Nulls) → Stands remaining contents nulls first old from count
-        → N.RunRead remaining contents nulls from to old new (Err stop) → Knows first.row_format.now columns
+        → 0 < first.row_format.now.count → N.RunRead remaining contents nulls from to old new (Err stop) → Knows first.row_format.now columns
         → SomeHere remaining contents (token_of nulls) columns first new (Err stop)
-    run_fails N.Unmarked x run knows =
+    run_fails N.Unmarked x some run knows =
         let y = look N.Unmarked x knows in
+        let put = run.cells in
         let sink = x.kept.in_row.sink in
-        rw (← x.kept.same.3) (rows_stop y.2.rows (rw y.2.counted at (run_breaks {p = here remaining contents old} y.2.cells run.cells y.0 y.1 y.2.counted
-        (sink.ready.1 sink.writing) sink.ready.2)))
-    run_fails {stop = stop} {columns = columns} (N.Marked bitmap) x run knows =
+        let ran = (put.wrote _ y.0 y.1).1 _ y.2.cells refl y.2.counted in
+        let broken = rows_break _ _ (here remaining contents old) (omega (arith, some, knows.counted)) put.failed_is (rw y.2.counted at ran.writes)
+        put.takes put.between (sink.ready.1 sink.writing) sink.ready.2 put.breaks in
+        rw (← x.kept.same.3) (rows_stop (rows_further y.2.rows broken.2) broken.3)
+    run_fails {stop = stop} {columns = columns} (N.Marked bitmap) x _ run knows =
         let y = look (N.Marked bitmap) x knows in
         let put = run.cells in
-        let runs = put.wrote _ y.0 y.1 in
+        let runs = put.wrote.1 _ y.0 y.1 in
         let sink = x.kept.in_row.sink in (
           tt,
           rw (← x.kept.same.3, put.failed_is) (marked_breaks _ _ columns (N.bit bitmap.now) _ _ runs.count (here remaining contents old) _ _ stop
@@ -511,9 +584,6 @@ pub row_shrinks : (most most' p q r count count' from after : ℕ) → count' �
 row_shrinks most most' p q r count count' from after same even within most_columns few step (on, x) = grind arith
 
 -- ---- NBCROWs that are whole in the packet
-
-takes_one : (a b : PayloadView) (bytes : List ℕ) → Takes a b bytes 0 → Takes a b bytes 1
-takes_one _ _ _ x = grind arith
 
 module _ {charset : Charset} {columns : List Column} where
   -- such a row was handed out, and its line was put

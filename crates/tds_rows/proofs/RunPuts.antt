@@ -5,9 +5,7 @@ use N.RowSteps.{PutsCell, StopsCell}
 use N.Paths.{At, over}
 use Rattle.tds_packet.specs.declared.payload.Payload.{Payload}
 use Rattle.tds_cells.proofs.RowTexts.{line_grows}
-use Rattle.tds_cells.proofs.GrowingTexts.{row_grows}
-use Rattle.tds_cells.proofs.RunSteps.{cell_writes, marked_cells, whole_of}
-use Rattle.tds_cells.proofs.RowFormatRuns.{marked_in_rows}
+use Rattle.tds_cells.proofs.RunSteps.{cell_writes, whole_of}
 
 -- ---- a cell that lies whole
 
@@ -94,40 +92,23 @@ module _ (h j : N.SinkView) (room written : List ℕ) (n : ℕ) (whole : length 
 
 -- ---- rows
 
--- a run within a row goes over the ends of none
-pub row_written : {row_format : N.RowFormat} {from to : N.Cursor} {bytes text : List ℕ} (nulls : N.Nulls)
-    → N.CellsWritten row_format (N.nulls_of nulls) from to bytes text → N.RunWritten row_format nulls from to 0 bytes text
-row_written N.Unmarked wrote = grind (arith, marked_in_rows)
-row_written (N.Marked bitmap) wrote = (N.refl, wrote)
-
--- the cells of a run within a row were passed over, and its text was put
-pub run_put : {W U : Type 0} {contents : N.Tells W} {row_format : N.RowFormat} {from to : N.Cursor} {before after : N.Sink W}
-    {bytes text : List ℕ} {place' : ℕ} {r : N.Result U Stop} (nulls : N.Nulls) (a b : N.PayloadView) (place : ℕ)
-    → N.CellsWritten row_format (N.nulls_of nulls) from to bytes text → N.Takes a b bytes 0 → N.IsBetween b → place' ≡ place + length bytes
-    → N.IsWriting before → N.PutsPiece contents before after text r
-    → N.MatchResult r (λ _. N.PutsRun (N.RunWritten row_format nulls from to 0) a b place place' (held contents before) (held contents after))
-    (λ stop. N.WritesPrefixOfRun row_format (N.nulls_of nulls) from a b (held contents before) (held contents after) after.failed stop)
-run_put {bytes = bytes} {text = text} {r = N.Ok u} nulls _ _ _ wrote takes _ at _ puts =
-    record { bytes = bytes; text = text; wrote = row_written nulls wrote; takes = takes; puts = puts.gives; place_is = at }
-run_put {to = to} {bytes = bytes} {text = text} {r = N.Err stop} _ _ _ _ wrote takes between _ going puts = record {
+-- the cells of a run were passed over, and its text was put
+pub run_put : {W U : Type 0} {contents : N.Tells W} {row_format : N.RowFormat} {nulls : N.Nulls} {from to : N.Cursor} {run : N.RowsSpan}
+    {before after : N.Sink W} {bytes text : List ℕ} {place' : ℕ} {r : N.Result U Stop} (a b : N.PayloadView) (place : ℕ)
+    → N.Ran row_format nulls from to bytes text run → N.Takes a b (N.take run.used bytes) 0 → N.IsBetween b
+    → place' ≡ place + length (N.take run.used bytes) → N.IsWriting before → N.PutsPiece contents before after (N.take run.made text) r
+    → N.MatchResult r (λ _. N.PutsRun (N.RunWritten row_format nulls from to run.rows) a b place place' (held contents before) (held contents after))
+    (λ stop. N.WritesPrefixOfRun row_format nulls from a b (held contents before) (held contents after) after.failed stop)
+run_put {r = N.Ok u} _ _ _ ran takes _ at _ puts =
+    record { bytes = _; text = _; wrote = ran.writes; takes = takes; puts = puts.gives; place_is = at }
+run_put {to = to} {run = run} {r = N.Err stop} _ _ _ ran takes between _ going puts = record {
   to = to;
-  bytes = bytes;
-  text = text;
-  wrote = wrote;
+  rows = run.rows;
+  bytes = _;
+  text = _;
+  wrote = ran.writes;
   takes = takes;
   between = between;
   breaks = puts.gives going.writing;
   failed_is = puts.failed;
 }
-
--- a write of their text failed, in the row that the run began in
-pub run_breaks : {row_format : N.RowFormat} {columns : List N.Column} {from : N.Cursor} {p : At} {e : N.Paths.Halt} (cells : List N.Cell)
-    → N.WritesPrefixOfRun row_format (λ k. N.false) from p.seen e.seen p.held e.held e.failed e.stop → N.Knows row_format columns
-    → N.IsCursor row_format columns from → length cells ≡ from.column → N.HasRoom p.held → N.Counts p.held
-    → N.Paths.until (N.Paths.RowStops row_format.charset (N.after_cells row_format.charset cells (N.drop from.column columns))) p e
-run_breaks {row_format = row_format} {p = p} {e} cells y knows ahead counted few delivered =
-    let runs = y.wrote _ knows ahead in
-    let x = marked_cells runs.count y.bytes _ counted runs.writes in
-    let broken = N.breaks_somewhere _ N.row_so_far (row_grows row_format.charset) _ p.seen e.seen p.held e.held e.stop y.between _ y.bytes N.[] _ x.writes.spelt
-    (rw N.append-nil (grind arith)) few delivered x.writes.text_is y.breaks in
-    record { at = broken.0; cause = grind arith }

@@ -5,7 +5,7 @@ pub use Rattle.tds_csv.proofs.Words.{take-append_seam, drop-append_seam, take-ap
 pub use Rattle.tds_csv.proofs.Words.{append_cancel_left, take-append-le, if◌then◌else◌, Option, emit, overwritten, Space, Fault, Stop}
 pub use Rattle.tds_csv.proofs.LacksTail.{nears_done, LacksTail, nears_breaks, last_read, nears_after, nears_from, added_between, nears_inside, tail_after}
 pub use Rattle.tds_csv.proofs.LacksTail.{nears_put}
-pub use Rattle.tds_csv.proofs.Pieces.{breaks_somewhere}
+pub use Rattle.tds_csv.proofs.Pieces.{breaks_somewhere, breaks_within}
 pub use Rattle.tds_csv.proofs.Sinks.{Puts-trans, WritesPrefix-after, WritesPrefix-longer, Puts-none}
 pub use Rattle.tds_csv.proofs.LentRooms.{spare_before, spare_written}
 pub use Rattle.tds_csv.proofs.Splits.{WritesPrefix_split, Puts_split}
@@ -27,13 +27,14 @@ pub use Rattle.tds_cells.specs.Cells.{return_charset, LongShape, cell_fault, Cel
 pub use Rattle.tds_cells.specs.MarkedRuns.{WritesColumn, WritesMarked, CellsWritten, Covers, nulls_of}
 pub use Rattle.tds_cells.specs.MarkedRows.{WritesNbcRow, WritesNbcRows, WritesWholeRows}
 pub use Rattle.tds_cells.specs.Rows.{marked, WholeRow, bitmap_length, bit, RowToken, Bitmap, PlainRow, with_cell, RowPart, row, SpellsRow, NbcRow, row_so_far}
-pub use Rattle.tds_cells.specs.Rows.{InCell, token_byte, row_start, next_cell, BeginNoRow}
-pub use Rattle.tds_cells.specs.Runs.{rows_so_far, rows, Writes, after_cells, RowsPart, WritesRows, RunWritten}
+pub use Rattle.tds_cells.specs.Rows.{InCell, row_add, token_byte, row_start, next_cell, BeginNoRow}
+pub use Rattle.tds_cells.specs.Runs.{rows_so_far, rows, lines, Writes, after_cells, RowsPart, WritesRows, RunWritten, Ran}
 pub use Rattle.tds_cells.specs.RowFormats.{IsCursor, KnowsSome, Knows}
 pub use Rattle.tds_cells.specs.WholeCells.{WritesCell, WritesWhole}
 pub use Rattle.tds_cells.specs.declared.nulls.Nulls.{Nulls}
 pub use Rattle.tds_cells.specs.declared.nulls.Nulls.TheVariants.{Unmarked, Marked}
 pub use Rattle.tds_cells.specs.declared.row_format.Cursor.{Cursor}
+pub use Rattle.tds_cells.specs.declared.run.RowsSpan.{RowsSpan}
 pub use Rattle.tds_cells.specs.declared.row_format.RowFormat.{RowFormat}
 pub use Rattle.tds_text.proofs.Words.{cases_lt}
 pub use Rattle.tds_text.proofs.OpenTexts.{begun_front, open_closes, unfit_adds_none, open_grows}

@@ -190,8 +190,8 @@ impl<'r, 't, 'p, 's, 'c, R: Read, W: Write> Rows<'r, 't, 'p, 's, 'c, R, W> {
         run.rows as u64
     }
 
-    // Reads the next cells of the row, as many as are NULL by a bit or whole in the packet and have room in a small text, puts that
-    // text over the end of the block, and steps over them. Begins no row.
+    // Reads the next cells, as many as are NULL by a bit or whole in the packet and have room in a small text, over the ends of
+    // ROWs, puts that text over the end of the block, and steps over them. Returns how many rows it began.
     fn put_via_scratch(&mut self, at: &mut Cursor<'c>, nulls: Nulls) -> Result<u64, Stop>
         requires in_row { AwaitsRows self.old.payload.now self.old.sink.now self.old.small.now }
         requires some { 0 < self.old.row_format.now.count }
@@ -200,10 +200,10 @@ impl<'r, 't, 'p, 's, 'c, R: Read, W: Write> Rows<'r, 't, 'p, 's, 'c, R, W> {
     {
         let mut text = [0u8; SCRATCH];
         let bytes = self.payload.buffered();
-        let run = self.row_format.run_in_row(at, nulls, bytes, &mut text);
+        let run = self.row_format.run(at, nulls, bytes, &mut text);
         self.payload.consume(run.used);
         self.sink.put(&text[..run.made])?;
-        Ok(0)
+        Ok(run.rows as u64)
     }
 
     /// Reads the next cells, as many as are NULL by a bit or whole in the packet and have room, puts their text, and steps over

@@ -4,23 +4,23 @@ use N.{arith}
 
 pub returns-in_err-put : goal.returns-in_err-put
 returns-in_err-put g c =
-    let run = c.run_in_row-run in
+    let run = c.run-run in
     let at = N.RunPuts.consumed c.args.self.now.payload.now run.result.used c.consume.ensures.rest (search arith) in
     record {
       leaves = search arith;
       few = search arith;
-      cells = N.passed _ _ _ _ c.from_residual.ensures.1 (N.RunPuts.run_put c.args.nulls _ _ _
+      cells = N.passed _ _ _ _ c.from_residual.ensures.1 (N.RunPuts.run_put _ _ _
           (rw c.buffered-bytes.ensures at run.ensures.cells) c.consume.ensures.gives (c.consume.ensures.between c.requires.in_row.payload.going) at
           c.requires.in_row.sink c.in_err-put.ensures);
     }
 
 pub returns : goal.returns
 returns g c =
-    let run = c.run_in_row-run in
+    let run = c.run-run in
     let at = N.RunPuts.consumed c.args.self.now.payload.now run.result.used c.consume.ensures.rest (search arith) in
     record {
       leaves = search arith;
-      few = omega arith;
-      cells = N.RunPuts.run_put c.args.nulls _ _ _ (rw c.buffered-bytes.ensures at run.ensures.cells)
+      few = omega (arith, run.ensures.cells.few, N.ap (λ p. p.place) c.consume.ensures.rest);
+      cells = N.RunPuts.run_put _ _ _ (rw c.buffered-bytes.ensures at run.ensures.cells)
           c.consume.ensures.gives (c.consume.ensures.between c.requires.in_row.payload.going) at c.requires.in_row.sink c.in_ok-put.ensures;
     }

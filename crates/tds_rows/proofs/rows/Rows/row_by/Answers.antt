@@ -32,7 +32,7 @@ loop-begun-init g c =
 pub returns-in_err-begun-clause-rows : goal.returns-in_err-begun-clause-rows
 returns-in_err-begun-clause-rows g c = λ columns knows.
     rw (err_is _ _ c.from_residual-in_err-begun.ensures.1, token_is g.M.Marks.token c.nulls-nulls.result _ c.nulls-nulls.ensures)
-    (run_fails _ c.loop-begun.invariant.reads c.in_err-begun.ensures knows)
+    (run_fails _ c.loop-begun.invariant.reads c.requires.in_row.1.2 c.in_err-begun.ensures knows)
 
 pub loop-begun-preserved-then-min-le-BLOCK_END : goal.loop-begun-preserved-then-min-le-BLOCK_END
 loop-begun-preserved-then-min-le-BLOCK_END g c =
