@@ -38,7 +38,7 @@ pub use Rattle.tds_cells.specs.Cells.{is_total, SpellsCell, DataCell}
 pub use Rattle.tds_cells.specs.FormatRuns.{run_since, FirstLeft, WritesFormats, RunsFormats, WritesFields}
 pub use Rattle.tds_cells.specs.Formats.{Each}
 pub use Rattle.tds_cells.specs.Layouts.{IsLaidOut}
-pub use Rattle.tds_cells.specs.MarkedRuns.{WritesColumn, EndsFar, EndsLeft, CellsWritten, BitsAre, WritesMarked, RunsMarked}
+pub use Rattle.tds_cells.specs.MarkedRuns.{nulls_of, WritesColumn, EndsFar, EndsLeft, CellsWritten, BitsAre, WritesMarked, RunsMarked}
 pub use Rattle.tds_cells.specs.MarkedRows.{EndsNbcRows, WritesNbcRows, WritesWholeRows}
 pub use Rattle.tds_cells.specs.Rows.{marked, WholeRow, bitmap_length, row_add, SpellsMarked, bit, RowToken, Bitmap, PlainRow, with_cell, RowPart, SpellsRow}
 pub use Rattle.tds_cells.specs.Rows.{row, NbcRow, row_so_far, with_field, row_size, InCell, token_byte, row_start, next_cell}

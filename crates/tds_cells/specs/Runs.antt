@@ -1,6 +1,6 @@
 -- What a run of cells does, which lie whole in the packet.
-use Rattle.std.specs.Prelude.{◌≡◌, ◌==◌, ◌⊎◌, ◌<◌, ◌≤◌, ℕ, Bool, false, List, [], ◌∷◌, ◌++◌, length, map, take, drop, Option, Some, None, MatchOption}
-use Rattle.std.specs.Prelude.{if◌then◌else◌, slice_index}
+use Rattle.std.specs.Prelude.{◌≡◌, ◌==◌, ◌⊎◌, ◌-◌, ◌<◌, ◌≤◌, ℕ, Bool, false, true, List, [], ◌∷◌, ◌++◌, length, map, take, drop, Option, Some, None}
+use Rattle.std.specs.Prelude.{MatchOption, if◌then◌else◌, slice_index}
 use Rattle.tds_values.specs.declared.kind.Kind.{Kind}
 use Rattle.tds_packet.specs.declared.fault.Fault.{Fault}
 use Rattle.tds_packet.specs.declared.fault.Fault.TheVariants.{MessageEnded, RefusedToken}
@@ -11,6 +11,7 @@ use Rattle.tds_text.specs.Quoting.{line}
 use Rattle.tds_values.specs.declared.charset.Charset.{Charset}
 use Rattle.tds_values.specs.declared.span.Span.{Span}
 use Rattle.tds_cells.specs.declared.run.RowsSpan.{RowsSpan}
+use Rattle.tds_cells.specs.declared.run.FarRun.{FarRun}
 use Rattle.tds_cells.specs.declared.run.KnownRun.{KnownRun}
 use Rattle.tds_cells.specs.declared.nulls.Nulls.{Nulls}
 use Rattle.tds_cells.specs.declared.nulls.Nulls.TheVariants.{Unmarked, Marked}
@@ -19,7 +20,7 @@ use Rattle.tds_cells.specs.declared.row_format.RowFormat.{RowFormat}
 use Rattle.tds_cells.specs.Cells.{Cell, field}
 use Rattle.tds_cells.specs.Rows.{PlainRow, RowPart, RowToken, WholeRow, marked, next_cell, row_add, row_fault, row_size, row_so_far, token_byte}
 use Rattle.tds_cells.specs.Rows.{bit, row_start}
-use Rattle.tds_cells.specs.MarkedRuns.{CellsWritten}
+use Rattle.tds_cells.specs.MarkedRuns.{CellsWritten, EndsLeft, nulls_of}
 use Rattle.tds_cells.specs.CellTexts.{IsLeft, WritesKind, whole_size}
 use Rattle.tds_cells.specs.WholeCells.{IsCellSpan}
 use Rattle.tds_cells.specs.RowFormats.{IsCursor, Knows, place}
@@ -132,3 +133,14 @@ pub record KnownRan (row_format : RowFormat) (column : ℕ) (bytes text : List �
   pub few : run.rows ≤ run.used
   pub writes : (walk : Walk)
       → RowsWritten row_format (place walk column) (place walk run.column) run.rows (take run.used bytes) (take run.made text)
+
+-- A run over such rows that says so ended before a cell that it left.
+pub record TellsLeft (row_format : RowFormat) (bytes : List ℕ) (room : ℕ) (run : FarRun) : Type 0 where
+  pub within : run.left ≡ true → run.run.column < row_format.count
+  pub ends : run.left ≡ true → (walk : Walk)
+      → EndsLeft row_format (nulls_of Unmarked) (place walk run.run.column) (drop run.run.used bytes) (room - run.run.made)
+
+-- One that doesn't ended where bytes or room are too few for any scalar, or after a row.
+abbrev pub EndsShort : RowFormat → List ℕ → ℕ → FarRun → Type 0
+EndsShort row_format bytes room run = run.left ≡ false
+    → (length (drop run.run.used bytes) < 19) ⊎ ((room - run.run.made < 66) ⊎ (row_format.count ≤ run.run.column))

@@ -6,8 +6,8 @@ ghost use Rattle.tds_cells.specs.declared.whole.TheConstants.{CELL_ROOM};
 ghost use Rattle.tds_cells.specs.FormatRuns.{NumbersEnd};
 ghost use Rattle.tds_cells.specs.Layouts.{IsLaidOut};
 ghost use Rattle.tds_cells.specs.declared.nulls.Nulls.TheVariants.{Unmarked};
-ghost use Rattle.tds_cells.specs.Runs.{AloneWritten, KnownRan, LeavesNext, Ran, StaysWithin};
-ghost use Rattle.tds_cells.specs.MarkedRuns.{CellsWritten, EndsFar, EndsLeft, nulls_of};
+ghost use Rattle.tds_cells.specs.Runs.{AloneWritten, EndsShort, KnownRan, LeavesNext, Ran, StaysWithin, TellsLeft};
+ghost use Rattle.tds_cells.specs.MarkedRuns.{CellsWritten, EndsLeft, nulls_of};
 ghost use Rattle.tds_cells.specs.RowFormats.{AreAtCursor, BeginsRow, place};
 ghost use Rattle.tds_columns.specs.declared.walk.Walk.{Walk};
 ghost use Rattle.tds_text.specs.Quoting.{after_comma};
@@ -90,6 +90,13 @@ impl KnownRun {
             column: column as u16,
         }
     }
+}
+
+/// A run as far as bytes and room go on far enough for any scalar, and whether it ended before a cell that is left.
+#[derive(Clone, Copy)]
+struct FarRun {
+    run: KnownRun,
+    left: bool,
 }
 
 // How many bytes the comma before the field of a column has.
@@ -268,17 +275,18 @@ impl<'a> RowFormat<'a> {
     // Writes cell after cell of rows whose columns the row format all knows, as `run_known` does, as long as bytes and room go on
     // far enough for any scalar. After a cell that isn't a row's last comes the comma of the next one.
     #[inline(always)]
-    fn run_unchecked(&self, column: u16, bytes: &[u8], to: &mut [u8]) -> KnownRun
+    fn run_unchecked(&self, column: u16, bytes: &[u8], to: &mut [u8]) -> FarRun
         requires all { self.now.known ≡ self.now.count }
         requires some { 0 < self.now.count }
-        ensures ends { (walk : Walk) → EndsFar self.now (nulls_of Unmarked) (place walk result.column)
-            (drop result.used bytes.now) (length to.old - result.made) }
-        ensures rows { KnownRan self.now column bytes.now to.new result }
+        ensures ends { EndsShort self.now bytes.now (length to.old) result }
+        ensures left { TellsLeft self.now bytes.now (length to.old) result }
+        ensures rows { KnownRan self.now column bytes.now to.new result.run }
     {
         let (formats, charset) = ((&*self).row(), self.charset);
         let mut cells = column as usize;
         if cells >= formats.len() || bytes.len() < LOOKAHEAD || to.len() < CELL_ROOM {
-            return KnownRun::none(column);
+            let run = KnownRun::none(column);
+            return FarRun { run, left: false };
         }
         let most = to.len() - VALUE_ROOM;
         let mut rest = bytes;
@@ -287,7 +295,9 @@ impl<'a> RowFormat<'a> {
         while rest.len() >= LOOKAHEAD && made <= most {
             let format = &formats[cells];
             let Some(written) = write_far_cell::<false>(format, charset, rest, 0, to, made) else {
-                break;
+                let used = bytes.len() - rest.len();
+                let run = KnownRun::ended(used, made - comma_size(cells), rows, cells);
+                return FarRun { run, left: true };
             };
             cells += 1;
             rest = &rest[written.used..];
@@ -299,39 +309,43 @@ impl<'a> RowFormat<'a> {
             }
             made = write_line_end(true, made - 1, to);
             if !row_follows(rest) {
-                return KnownRun::ended(bytes.len() - rest.len(), made, rows, cells);
+                let used = bytes.len() - rest.len();
+                let run = KnownRun::ended(used, made, rows, cells);
+                return FarRun { run, left: false };
             }
             cells = 0;
             rest = &rest[1..];
             rows += 1;
         }
         let used = bytes.len() - rest.len();
-        KnownRun::ended(used, made - comma_size(cells), rows, cells)
+        let run = KnownRun::ended(used, made - comma_size(cells), rows, cells);
+        FarRun { run, left: false }
     }
 
     // Writes rows in the way that asks least of each cell: as `run_numbers` does before a row, if `INT4` says that all values
     // are whole numbers of four bytes, and as `run_unchecked` does if not all are.
     #[inline(always)]
-    fn run_fast<const INT4: bool>(&self, column: u16, bytes: &[u8], to: &mut [u8]) -> KnownRun
+    fn run_fast<const INT4: bool>(&self, column: u16, bytes: &[u8], to: &mut [u8]) -> FarRun
         requires all { self.now.known ≡ self.now.count }
         requires some { 0 < self.now.count }
         requires numbers { INT4 ≡ true → self.now.only_numbers ≡ true }
         ensures numbers { INT4 ≡ true → column ≡ 0 → let row = take self.now.known self.now.formats.now in
-            NumbersEnd row result.column (drop result.used bytes.now) (length to.old - result.made) }
-        ensures ends { INT4 ≡ false → (walk : Walk) → EndsFar self.now (nulls_of Unmarked) (place walk result.column)
-            (drop result.used bytes.now) (length to.old - result.made) }
-        ensures rows { KnownRan self.now column bytes.now to.new result }
+            NumbersEnd row result.run.column (drop result.run.used bytes.now) (length to.old - result.run.made) }
+        ensures ends { INT4 ≡ false → EndsShort self.now bytes.now (length to.old) result }
+        ensures left { TellsLeft self.now bytes.now (length to.old) result }
+        ensures rows { KnownRan self.now column bytes.now to.new result.run }
     {
         if !INT4 {
             return self.run_unchecked(column, bytes, to);
         }
-        if column != 0 {
-            return KnownRun::none(column);
-        }
-        if self.only_counted {
-            return self.run_numbers::<true>(bytes, to);
-        }
-        self.run_numbers::<false>(bytes, to)
+        let run = if column != 0 {
+            KnownRun::none(column)
+        } else if self.only_counted {
+            self.run_numbers::<true>(bytes, to)
+        } else {
+            self.run_numbers::<false>(bytes, to)
+        };
+        FarRun { run, left: false }
     }
 
     // Writes cell after cell of rows whose columns the row format all knows, as far as they are whole in these bytes and have room,
@@ -352,10 +366,13 @@ impl<'a> RowFormat<'a> {
         let mut column = from;
         loop {
             let fast = self.run_fast::<NUMBERS>(column, &bytes[used..], &mut to[made..]);
-            used += fast.used;
-            made += fast.made;
-            rows += fast.rows;
-            column = fast.column;
+            used += fast.run.used;
+            made += fast.run.made;
+            rows += fast.run.rows;
+            column = fast.run.column;
+            if fast.left {
+                break;
+            }
             let Some(formats) = (&*self).rest_of_row(column) else {
                 if !row_follows(&bytes[used..]) {
                     break;

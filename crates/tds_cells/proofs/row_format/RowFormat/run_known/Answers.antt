@@ -19,8 +19,8 @@ loop-formats-preserved g c =
     let fast = c.run_fast-fast in
     let run = c.run_formats-run in
     let some = run.ensures.run.within.some (omega arith) in
-    let made = c.loop-formats.made + fast.result.made in
-    known_ran (λ walk. rows_more {new = place walk (fast.result.column + run.result.cells)} run.result.used (made + run.result.made) _ _ some
+    let made = c.loop-formats.made + fast.result.run.made in
+    known_ran (λ walk. rows_more {new = place walk (fast.result.run.column + run.result.cells)} run.result.used (made + run.result.made) _ _ some
     (search arith) (search arith) (made_more made run.result.made (put_mid c.loop-formats.made _ c.loop-formats.to fast.new.to) run.new.to _
     (search arith) (search arith))
     (λ columns knows is. formats_between _ _ _ _ (omega arith) (c.in-Some.ensures.ahead walk) _ (N.sym (N.eq-eqb _ _ c.in-Some.ensures.whole)) _ knows is
@@ -35,7 +35,7 @@ returns-then-run-eq0-clause-ends g c = λ walk columns column left knows ahead s
     let l = c.loop-formats in
     let fast = c.run_fast-fast in
     let run = c.run_formats-run in
-    let made = l.made + fast.result.made in
+    let made = l.made + fast.result.run.made in
     let mid = put_mid l.made (length l.to - l.made) l.to fast.new.to in
     let left = first_left _ _ _ _ (omega arith) (c.in-Some.ensures.ahead walk) (run.ensures.run.ends c.if-run-eq0.true) _
     _ _ knows ahead step in
@@ -50,7 +50,7 @@ pub returns-then-run-eq0-clause-rows : goal.returns-then-run-eq0-clause-rows
 returns-then-run-eq0-clause-rows g c =
     let l = c.loop-formats in
     let fast = c.run_fast-fast in
-    let made = l.made + fast.result.made in
+    let made = l.made + fast.result.run.made in
     let mid = put_mid l.made _ l.to fast.new.to in
     let ran = known_further fast.new.to _ l.invariant fast.ensures.rows in
     known_kept (same_len_mid made _ mid _ (search arith)) (N.RunSteps.made_same made mid _ ran.made) ran
@@ -63,3 +63,18 @@ returns-then-not-row_follows-clause-last g c = λ end begins. (rw (N.all_after c
 
 pub returns-then-run-eq0-clause-last : goal.returns-then-run-eq0-clause-last
 returns-then-run-eq0-clause-last g c = λ end begins. absurd (omega (arith, end, c.in-Some.ensures.whole, (c.in-Some.ensures.ahead c.args.self.now.rest).some))
+
+pub returns-then-fast-clause-ends : goal.returns-then-fast-clause-ends
+returns-then-fast-clause-ends g c = λ walk columns column left knows ahead step.
+    let l = c.loop-formats in
+    let fast = c.run_fast-fast in
+    let left = fast.ensures.left.ends c.if-fast.true walk _ _ _ knows ahead step in
+    let room : length (N.take (length l.to - l.made) (N.drop l.made l.to)) - fast.result.run.made ≡ length c.args.to.now - (l.made + fast.result.run.made) =
+    omega arith in
+    rw (N.drop-drop fast.result.run.used l.used c.args.bytes.now) at (rw (N.all_after c.args.bytes.now l.used) at (rw room at left))
+
+pub returns-then-fast-clause-last : goal.returns-then-fast-clause-last
+returns-then-fast-clause-last g c = λ end begins. absurd (omega (arith, end, c.run_fast-fast.ensures.left.within c.if-fast.true))
+
+pub returns-then-fast-clause-rows : goal.returns-then-fast-clause-rows
+returns-then-fast-clause-rows g c = known_further c.run_fast-fast.new.to _ c.loop-formats.invariant c.run_fast-fast.ensures.rows

@@ -1,9 +1,8 @@
 use Rattle.tds_cells.proofs as N
 use N.row_format.RowFormat.run_unchecked.Goals as goal
 use N.{place, arith, ◌∙◌, ◌≡◌, ◌==◌, ◌+◌, ◌-◌, ◌≤◌, ◌<◌, ◌++◌, ◌∷◌, [], ap, inl, inr, length, rules, sym, take, drop, get_or, true, List, ℕ}
-use Rattle.tds_cells.proofs.row_format.RowFormat.run_unchecked.Goals.{In-Some}
+use Rattle.tds_cells.proofs.row_format.RowFormat.run_unchecked.Goals.{In-Some, In_default}
 use N.row_format.RowFormat.run_unchecked.Goals.{then-loop-rest-test+else-made-most, else-loop-rest-test}
-use N.row_format.RowFormat.run_unchecked.Goals.{then-loop-rest-test+then-made-most+in_default as cell_left}
 use N.FarRuns.{begins_in, begins_some, comma_made, comma_size, comma_most, comma_one, far_left, far_more, row_length}
 use N.FormatSteps.{left_after}
 use N.RowFormatRuns.{known_begin, known_begun, known_kept, first_left, rest_ahead}
@@ -11,13 +10,12 @@ use N.RunSteps.{unused}
 use Rattle.std.proofs.lemmas.List.{take-set-le}
 
 pub returns-then-cells-formats-clause-rows : goal.returns-then-cells-formats-clause-rows
-returns-then-cells-formats-clause-rows c = rw c.none.ensures known_begin
+returns-then-cells-formats-clause-rows c = rw c.none-run.ensures known_begin
 
 pub returns-then-cells-formats-clause-ends : goal.returns-then-cells-formats-clause-ends
 returns-then-cells-formats-clause-ends c =
-    let row_format = c.args.self.now in
-    let row = row_length row_format c.requires.all c.row-formats.ensures.row in
-    λ walk. rw c.none.ensures (grind (arith, N.RowFormatSteps.none_next))
+    let row = row_length c.args.self.now c.requires.all c.row-formats.ensures.row in
+    λ _. rw c.none-run.ensures (grind arith)
 
 pub loop-rest-init : goal.loop-rest-init
 loop-rest-init c =
@@ -106,8 +104,8 @@ pub returns-then-not-row_follows-clause-rows : goal.returns-then-not-row_follows
 returns-then-not-row_follows-clause-rows c =
     let row = row_length c.args.self.now c.requires.all c.row-formats.ensures.row in
     let end = c.write_line_end-made in
-    rw c.ended.ensures (with_line (goal.at.returns-then-not-row_follows-clause-rows c).In-Some end.result end.new.to (omega arith) (search (arith, rules))
-    end.ensures.text)
+    let written = (goal.at.returns-then-not-row_follows-clause-rows c).In-Some in
+    rw c.ended-run-then-not-row_follows.ensures (with_line written end.result end.new.to (omega arith) (search (arith, rules)) end.ensures.text)
 
 pub loop-rest-preserved : goal.loop-rest-preserved
 loop-rest-preserved c =
@@ -133,34 +131,44 @@ loop-rest-preserved c =
       };
     }
 
-pub returns-clause-rows : goal.returns-clause-rows
-returns-clause-rows c =
+pub returns-in_default-clause-rows : goal.returns-in_default-clause-rows
+returns-in_default-clause-rows c =
     let l = c.loop-rest in
-    rw (c.ended-2.ensures, c.comma_size.ensures) (elim c.loop-rest-test.branch [
-      | else-loop-rest-test w ↦ rw w.to-is l.invariant.at.ran
-      | then-loop-rest-test+else-made-most w ↦ rw w.to-is l.invariant.at.ran
-      | cell_left w ↦ (let at = l.made - comma_size l.cells in let new = w.write_far_cell.new.to in
-          rw w.to-is (known_kept (search (arith, rules)) (sym (N.take-take at l.made new (omega arith)) ∙ ap (take at) w.write_far_cell.ensures.kept
-          ∙ N.take-take at l.made l.to (omega arith)) l.invariant.at.ran))
-    ])
+    let at = l.made - comma_size l.cells in
+    let new = c.write_far_cell.new.to in
+    rw (c.ended-run.ensures, c.comma_size.ensures) (known_kept (search (arith, rules))
+    (sym (N.take-take at l.made new (omega arith)) ∙ ap (take at) c.write_far_cell.ensures.kept ∙ N.take-take at l.made l.to (omega arith)) l.invariant.at.ran)
+
+-- the cell that was left
+cell_left : (c : In_default) → (walk : N.Walk) → N.EndsLeft c.args.self.now (N.nulls_of N.Unmarked) (place walk c.loop-rest.cells)
+    (drop (length c.args.bytes.now - length c.loop-rest.rest.now) c.args.bytes.now)
+    (length c.args.to.now - (c.loop-rest.made - comma_size c.loop-rest.cells))
+cell_left c walk columns column left knows ahead step =
+    let l = c.loop-rest in
+    let row_format = c.args.self.now in
+    let formats = c.row-formats.result.now in
+    let format = c.index-formats-cells.result in
+    let format_is : format ≡ get_or formats l.cells format = search (arith, rules) in
+    let rest = rest_ahead row_format (place walk l.cells) formats c.requires.all c.row-formats.ensures.row l.invariant.at.some in
+    let less : length c.args.to.now - (l.made - comma_size l.cells) ≤ length l.to - l.made + 1 = grind arith in
+    first_left row_format (place walk l.cells) row_format.count (drop l.cells formats) (omega arith) rest.0
+    (far_left row_format formats l.cells format _ _ _ format_is less (grind arith))
+    columns column left knows ahead step
+
+pub returns-in_default-clause-left : goal.returns-in_default-clause-left
+returns-in_default-clause-left c = record {
+  within = λ _. rw c.ended-run.ensures c.loop-rest.invariant.at.some;
+  ends = λ _ walk. rw (c.ended-run.ensures, c.comma_size.ensures) (cell_left (goal.at.returns-in_default-clause-left c).In_default walk);
+}
+
+pub returns-clause-rows : goal.returns-clause-rows
+returns-clause-rows c = rw (c.ended-run-2.ensures, c.comma_size-2.ensures) c.loop-rest.invariant.at.ran
 
 pub returns-clause-ends : goal.returns-clause-ends
 returns-clause-ends c =
     let l = c.loop-rest in
-    let row_format = c.args.self.now in
-    let all = c.requires.all in
-    let formats = c.row-formats.result.now in
     let bytes = c.args.bytes.now in
-    λ walk. rw (c.ended-2.ensures, c.comma_size.ensures) (elim c.loop-rest-test.branch [
+    λ _. rw (c.ended-run-2.ensures, c.comma_size-2.ensures) (elim c.loop-rest-test.branch [
       | else-loop-rest-test w ↦ inl (omega (arith, w.loop-rest-test.false, l.invariant.at.within, N.length-drop (length bytes - length l.rest.now) bytes))
       | then-loop-rest-test+else-made-most w ↦ inr (grind (arith, comma_most))
-      | cell_left w ↦ inr (inr (λ columns column left knows ahead step.
-          let format = w.index-formats-cells.result in
-          let format_is : format ≡ get_or formats l.cells format = search (arith, rules) in
-          let rest = rest_ahead row_format (place walk l.cells) formats all c.row-formats.ensures.row l.invariant.at.some in
-          let less : length c.args.to.now - (l.made - comma_size l.cells) ≤ length l.to - l.made + 1 =
-          grind arith in
-          first_left row_format (place walk l.cells) row_format.count (drop l.cells formats) (omega arith) rest.0
-          (far_left row_format formats l.cells format _ _ _ format_is less (grind arith))
-          columns column left knows ahead step))
     ])
