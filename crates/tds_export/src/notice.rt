@@ -104,6 +104,7 @@ pub(crate) fn message_of(body: &[u8]) -> &[u8]
 
 /// Reads the Length and the body of an ERROR or INFO after its token byte. The body is in the
 /// token area, and its inner lengths stay within it.
+#[inline(never)]
 pub(crate) fn take_notice<R: Read>(payload: &mut Payload<R>, token: &mut Area) -> Result<(), Stop>
     requires going { IsGoing payload.old }
     requires room { 65535 ≤ token.old.room }
@@ -130,6 +131,7 @@ pub(crate) fn take_notice<R: Read>(payload: &mut Payload<R>, token: &mut Area) -
 
 /// Reads the Length and the body of an ERROR or INFO after its token byte, and keeps nothing of them. A body that is whole in the
 /// packet is judged there; one that isn't is read into the token area.
+#[inline(always)]
 pub(crate) fn pass_notice<R: Read>(payload: &mut Payload<R>, token: &mut Area) -> Result<(), Stop>
     requires going { IsGoing payload.old }
     requires room { 65535 ≤ token.old.room }
