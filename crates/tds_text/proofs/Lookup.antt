@@ -127,10 +127,16 @@ chosen_maps : (m : ℕ → Bool) (f g : ℕ → ℕ) (us : List ℕ) → N.sel_l
 chosen_maps m f g [] = refl
 chosen_maps m f g (u ∷ us) = ap (λ xs. cond (m u) (f u) (g u) ∷ xs) (chosen_maps m f g us)
 
--- and by the tops of others
-pub chosen : (l f g : ℕ → ℕ) (us : List ℕ) {ls xs ys : List ℕ} → ls ≡ map l us → xs ≡ map f us → ys ≡ map g us
-    → N.sel_l (map (top 15) ls) xs ys ≡ map (λ u. cond (top 15 (l u)) (f u) (g u)) us
-chosen = grind (arith, N.map-map, chosen_maps)
+pub picked_self : (m : ℕ → Bool) (f : ℕ → ℕ) (us : List ℕ) → N.sel_l (map m us) (map f us) us ≡ map (λ u. cond (m u) (f u) u) us
+picked_self m f us = ap (N.sel_l (map m us) (map f us)) (N.sym (N.map-id us)) ∙ chosen_maps m f (λ u. u) us
+
+pub picked : (m : ℕ → Bool) (g : ℕ → ℕ) (us : List ℕ) (n y : ℕ) → length us ≡ n
+    → N.sel_l (map m us) (N.replicate n y) (map g us) ≡ map (λ u. cond (m u) y (g u)) us
+picked m g us n y long = rw (N.splat_is_map us n y long) (chosen_maps m (λ _. y) g us)
+
+pub picked_number : (m : ℕ → Bool) (us : List ℕ) (n y z : ℕ) → length us ≡ n
+    → N.sel_l (map m us) (N.replicate n y) (N.replicate n z) ≡ map (λ u. cond (m u) y z) us
+picked_number m us n y z long = rw (N.splat_is_map us n y long, N.splat_is_map us n z long) (chosen_maps m (λ _. y) (λ _. z) us)
 
 -- two bytes are a lane
 pub units_of_bytes : (n : ℕ) (xs : List ℕ) → length xs ≡ 2 * n → Each1 (Fits w8) xs → digits_l 65536 n (number_l 256 xs) ≡ units xs
@@ -146,34 +152,19 @@ lead u = 224 + u / 4096
 abbrev pub others : ℕ → ℕ
 others u = (128 + u / 64 % 64) + (128 + u % 64) * 256
 
--- the two bytes of each number
-abbrev bytes_of : List ℕ → List ℕ
-bytes_of [] = []
-bytes_of (x ∷ xs) = (x % 256) ∷ (x / 256 % 256) ∷ bytes_of xs
-
-bytes_of_pairs : (n : ℕ) (xs : List ℕ) → length xs ≡ n → Each1 (λ x. x < 65536) xs → digits_l 256 (2 * n) (number_l 65536 xs) ≡ bytes_of xs
-bytes_of_pairs zero [] long fits = refl
-bytes_of_pairs (suc n) (x ∷ xs) long fits =
+-- the two bytes of each number that is made of a unit
+lane_bytes : (f : ℕ → ℕ) (n : ℕ) (us : List ℕ) → length us ≡ n → Each1 (λ u. f u < 65536) us
+    → digits_l 256 (2 * n) (number_l 65536 (map f us)) ≡ flat_map (λ u. N.low_and_high (f u)) us
+lane_bytes f zero [] long fits = refl
+lane_bytes f (suc n) (u ∷ us) long fits =
     let two : 2 * suc n ≡ suc (suc (2 * n)) = omega arith in
-    rw two (grind (arith, bytes_of_pairs n xs (omega arith) fits.1))
-bytes_of_pairs n xs long fits = grind arith
-
--- and of each number that is made of a unit
-bytes_of_map : (f : ℕ → ℕ) (us : List ℕ) → bytes_of (map f us) ≡ flat_map (λ u. N.low_and_high (f u)) us
-bytes_of_map f [] = refl
-bytes_of_map f (u ∷ us) = ap (λ xs. (f u % 256) ∷ (f u / 256 % 256) ∷ xs) (bytes_of_map f us)
-
-pair_fits : (u : ℕ) → u < 65536 → (pair u < 65536) × ((low_quad u < 65536) × (high_quad u < 65536))
-pair_fits = grind arith
-
-each_fits : (us : List ℕ) → Each1 (Fits w16) us → Each1 (λ x. x < 65536) (map pair us)
-each_fits [] fits = tt
-each_fits (u ∷ us) fits = ((pair_fits u fits.0.fits).0, each_fits us fits.1)
+    rw two (grind (arith, lane_bytes f n us (omega arith) fits.1))
+lane_bytes f n us long fits = grind arith
 
 -- the bytes of eight pairs
 pub pair_lanes : (us : List ℕ) {z : List ℕ} → length us ≡ 8 → Each1 (Fits w16) us → z ≡ map pair us
     → digits_l 256 16 (number_l 65536 z) ≡ flat_map N.pair_bytes us
-pair_lanes us long fits is = rw is (bytes_of_pairs 8 (map pair us) (N.length-map us pair ∙ long) (each_fits us fits) ∙ bytes_of_map pair us)
+pair_lanes us long fits is = rw is (lane_bytes pair 8 us long (N.Each1-weaker _ _ (grind arith) us fits))
 
 -- of each four bytes the first, the third and the fourth, and then the second
 abbrev pub woven : List ℕ → List ℕ
@@ -184,17 +175,16 @@ split : (u : ℕ) → u < 65536 → (lead u % 256 ≡ 224 + u / 4096) × (others
 split = grind arith
 
 -- the bytes of four of them
-abbrev four : ℕ → ℕ → ℕ → ℕ → List ℕ
-four a b c d = lead a ∷ others a ∷ lead b ∷ others b ∷ lead c ∷ others c ∷ lead d ∷ others d ∷ []
-
 four_each : (a b c d : ℕ) → a < 65536 → b < 65536 → c < 65536 → d < 65536
-    → take 12 (woven (digits_l 256 16 (number_l 65536 (four a b c d)))) ≡ N.triples (a ∷ b ∷ c ∷ d ∷ [])
+    → take 12 (woven (digits_l 256 16 (number_l 65536 (lead a ∷ others a ∷ lead b ∷ others b ∷ lead c ∷ others c ∷ lead d ∷ others d ∷ []))))
+    ≡ N.triples (a ∷ b ∷ c ∷ d ∷ [])
 four_each a b c d sa sb sc sd =
     let fa = split a sa in
     let fb = split b sb in
     let fc = split c sc in
     let fd = split d sd in
-    ap (λ bs. take 12 (woven bs)) (bytes_of_pairs 8 (four a b c d) refl (grind arith)) ∙ (cc)
+    ap (λ bs. take 12 (woven bs)) (lane_bytes (λ x. x) 8 (lead a ∷ others a ∷ lead b ∷ others b ∷ lead c ∷ others c ∷ lead d ∷ others d ∷ []) refl
+    (grind arith)) ∙ (cc)
 
 -- eight of them, each lane beside the other
 abbrev pub beside_first : List ℕ → List ℕ → List ℕ
@@ -213,9 +203,8 @@ three_each us ls os long fits is_lead is_others = grind arith
 quad_each : (a b c d : ℕ) → a < 65536 → b < 65536 → c < 65536 → d < 65536
     → digits_l 256 16 (number_l 65536 (low_quad a ∷ high_quad a ∷ low_quad b ∷ high_quad b ∷ low_quad c ∷ high_quad c ∷ low_quad d ∷ high_quad d
     ∷ [])) ≡ flat_map N.quad_bytes (a ∷ b ∷ c ∷ d ∷ [])
-quad_each a b c d sa sb sc sd =
-    bytes_of_pairs 8 (low_quad a ∷ high_quad a ∷ low_quad b ∷ high_quad b ∷ low_quad c ∷ high_quad c ∷ low_quad d ∷ high_quad d ∷ []) refl
-    (grind arith)
+quad_each a b c d sa sb sc sd = lane_bytes (λ x. x) 8
+    (low_quad a ∷ high_quad a ∷ low_quad b ∷ high_quad b ∷ low_quad c ∷ high_quad c ∷ low_quad d ∷ high_quad d ∷ []) refl (grind arith)
 
 -- and of eight
 pub quad_lanes : (us ls hs : List ℕ) → length us ≡ 8 → Each1 (Fits w16) us → ls ≡ map low_quad us → hs ≡ map high_quad us
@@ -224,16 +213,6 @@ pub quad_lanes : (us ls hs : List ℕ) → length us ≡ 8 → Each1 (Fits w16) 
 quad_lanes (a ∷ b ∷ c ∷ d ∷ e ∷ f ∷ g ∷ h ∷ []) ls hs long (fa, (fb, (fc, (fd, (fe, (ff, (fg, (fh, _)))))))) is_low is_high =
     rw (is_low, is_high) (grind (arith, quad_each))
 quad_lanes us ls hs long fits is_low is_high = grind arith
-
--- what a lane of the second numbers computes
-pub high_lane : (u : ℕ) → u < 65536
-    → cond (top 15 (cond (N.eqb u 34) 65535 0)) 8738 (((u / 4096 + (u / 64 % 64 * 256) % 65536) % 65536 + cond (top 15 (cond (N.leb 2048 u) 65535 0)) 32992
-    49376) % 65536) ≡ high_quad u
-high_lane = grind arith
-
--- and of the first
-pub low_lane : (u : ℕ) → u < 65536 → cond (top 15 (cond (N.eqb u 34) 65535 0)) 8738 ((u % 256 + ((u % 64 + 128) % 65536 * 256) % 65536) % 65536) ≡ low_quad u
-low_lane = grind arith
 
 -- what holds of one number holds of eight lanes of it
 pub asks_all : (R : ℕ → ℕ → Type 0) (us : List ℕ) (k : ℕ) → ((x : ℕ) → R x k) → Each2 R us (N.replicate 8 k)

@@ -13,7 +13,7 @@ pub use Rattle.std.proofs.lemmas.Grind.{flat_map-append, common_steps}
 pub use Rattle.std.proofs.lemmas.List.{take-append-le, nil_from_length, map-id, take-append-drop, take-take, take_at, drop-append-le, drop-take, length-map}
 pub use Rattle.std.proofs.lemmas.List.{map-append, take_more, drop_more, drop_at, get_or-drop, take-map}
 pub use Rattle.std.proofs.lemmas.List.Sums.{prefix_len-le-length}
-pub use Rattle.std.proofs.lemmas.Simd.{swz_l, map-map, mask_l-mod, length-chunk, chunk-fits, first_set_mask_l, zip2_of_maps, splat_is_map, zip2_splat}
+pub use Rattle.std.proofs.lemmas.Simd.{swz_l, map-map, mask_l-mod, length-chunk, chunk-fits, first_set_mask_l, splat_is_map, zip2_splat, zip2_splat_left}
 pub use Rattle.std.proofs.lemmas.Simd.{SwzOk-from_below, length-put_chunk, take_more_put_chunk, Each2-splat, Each1-all, Each1-weaker, below_from_Fits}
 pub use Rattle.std.proofs.lemmas.Simd.{ones-mask_l, zip2-map, length-zip2, Each1-zip2, Each2-of}
 pub use Rattle.std.proofs.lemmas.Str.{is_utf8-from_IsUtf8, utf8_valid_len_le, IsUtf8-from_is_utf8, IsUtf8-nil, utf8_valid_len-IsUtf8}

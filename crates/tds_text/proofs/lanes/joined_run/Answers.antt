@@ -1,18 +1,11 @@
 use Rattle.tds_text.proofs as N
-use N.{◌∙◌, zip2_of_maps, splat_is_map}
-use N.LaneMasks.{pair_stops}
-use Rattle.tds_text.specs.Joined.{is_joined, pairs_at}
+use N.{◌∙◌, ◌+◌}
+use N.LaneMasks.{lanes, pair_stops, pairs_fit, pairs_long, run_of, side_by_side, with_both}
 
 pub returns : N.lanes.joined_run.Goals.returns
 returns c =
     let d = c.args.bytes.now in
-    let at = c.args.at in
-    let v = pairs_at at d in
-    let long = N.LaneMasks.pairs_long d at c.requires in
-    let here = N.LaneMasks.here_lanes d at c.requires in
-    c.first_set.ensures ∙ N.LaneMasks.run_of_pairs d at c.requires is_joined c.type_inv.bytes _ (zip2_of_maps _ _ _ v
-    (zip2_of_maps _ _ _ v (zip2_of_maps _ _ _ v here (splat_is_map v 16 34 long))
-    (zip2_of_maps _ _ _ v (zip2_of_maps (λ a b. N.cond (N.leb a b) 255 0) _ _ v (splat_is_map v 16 192 long) here)
-    (zip2_of_maps _ _ _ v (zip2_of_maps _ _ _ v here (splat_is_map v 16 194 long)) (splat_is_map v 16 30 long))))
-    (zip2_of_maps _ _ _ v (zip2_of_maps _ _ _ v (zip2_of_maps _ _ _ v here (splat_is_map v 16 194 long)) (splat_is_map v 16 30 long))
-    (zip2_of_maps _ _ _ v (zip2_of_maps _ _ _ v (N.LaneMasks.next_lanes d at c.requires) (splat_is_map v 16 128 long)) (splat_is_map v 16 64 long)))) pair_stops
+    let here = N.length-chunk c.args.at 16 d (omega N.arith) in
+    let next = N.length-chunk (c.args.at + 1) 16 d (omega N.arith) in
+    c.first_set.ensures ∙ simp (lanes, with_both, side_by_side) (run_of _ (λ p fits. pair_stops p.0 p.1 fits.0.fits fits.1.fits) _
+    (pairs_long d c.args.at c.requires) (omega N.arith) (pairs_fit d c.args.at c.requires c.type_inv.bytes))

@@ -1,8 +1,7 @@
 use Rattle.tds_text.proofs as N
+use N.LaneMasks.{lanes, run_of}
 
 pub returns : N.lanes.quote_stops.Goals.returns
 returns g c =
-    let n = g.row.N in
-    let v = N.chunk c.args.at n c.args.bytes.now in
-    N.LaneMasks.run_in n N.is_unquoted c.args.bytes.now c.args.at c.requires.few c.requires.there c.type_inv.bytes _
-    (N.zip2_splat _ v n 34 (N.length-chunk c.args.at n c.args.bytes.now c.requires.there)) N.refl
+    let there = N.length-chunk c.args.at g.row.N c.args.bytes.now c.requires.there in
+    simp lanes (run_of _ (grind N.arith) _ there c.requires.few (N.chunk-fits N.w8 _ _ _ c.type_inv.bytes))

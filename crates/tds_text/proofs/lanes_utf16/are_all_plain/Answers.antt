@@ -1,6 +1,6 @@
 use Rattle.tds_text.proofs as N
 use N.lanes_utf16.are_all_plain.Goals as goal
-use N.LaneMasks.{no_quotes, unquoted}
+use N.LaneMasks.{no_quotes}
 use N.WideText.{both_plain, plain_both}
 
 pub returns-then-not-are_ascii-clause-other : goal.returns-then-not-are_ascii-clause-other
@@ -11,10 +11,10 @@ returns-then-not-are_ascii-clause-other c = λ _ plain.
 pub returns-clause-plain : goal.returns-clause-plain
 returns-clause-plain c = λ none.
     let small = rw (c.units_of.ensures, c.units_of-2.ensures) at (c.are_ascii.ensures.small (grind (N.arith, c.if-not-are_ascii.false))) in
-    both_plain 8 c.args.first c.args.second c.fits-first.0 small.0 small.1 (unquoted _ (rw c.all_low_bytes.ensures at c.quotes_in.ensures) none)
+    both_plain 8 c.args.first c.args.second c.fits-first.0 small.0 small.1 ((no_quotes _ (rw c.all_low_bytes.ensures at c.quotes_in.ensures)).0 none)
 
 pub returns-clause-other : goal.returns-clause-other
 returns-clause-other c = λ some plain.
     let parts = plain_both 8 c.args.first c.args.second c.fits-first.0 plain in
-    let none = no_quotes _ (rw c.all_low_bytes.ensures at c.quotes_in.ensures) parts.2 in
+    let none = (no_quotes _ (rw c.all_low_bytes.ensures at c.quotes_in.ensures)).1 parts.2 in
     absurd (grind (N.arith, some, none))

@@ -1,4 +1,4 @@
 use Rattle.tds_text.proofs as N
 
 pub returns : N.lanes_utf16.has_long.Goals.returns
-returns c = λ none. N.LaneMasks.none_long c.args.units c.fits-units.0 c.fits-units.1 none
+returns c = λ none. N.Each1-weaker _ _ (grind N.arith) _ (N.LaneMasks.low_lanes 11 c.args.units c.fits-units.0 (omega N.arith) c.fits-units.1 (grind N.arith))

@@ -1,6 +1,5 @@
 use Rattle.tds_text.proofs as N
+use N.LaneMasks.{lanes, mask_of}
 
 pub returns : N.lanes_utf16.quotes_in.Goals.returns
-returns c =
-    let bytes = c.args.bytes in
-    N.LaneMasks.quote_mask bytes c.fits-bytes.0 (N.zip2_splat (λ a b. N.cond (N.eqb a b) 255 0) bytes 16 34 c.fits-bytes.0)
+returns c = let long = c.fits-bytes.0 in simp lanes (mask_of (grind N.arith) c.args.bytes (omega N.arith) c.fits-bytes.1)
