@@ -1,8 +1,8 @@
 -- The text of units that are characters of at most three bytes.
 use Rattle.tds_text.proofs as N
 use Rattle.std.proofs.Common.{slice_index_or}
-use N.{is_half, is_long, is_wide, quad_bytes, triples, unit_text, units_text, ◌-◌, refl, chunk, Bool, Each1, Fits, List, [], ap, arith, drop, mask_l, false}
-use N.{get_or, length, map, suc, sym, take, true, w16, zero, ℕ, ◌%◌, ◌*◌, ◌++◌, ◌+◌, ◌/◌, ◌<◌, ◌∙◌, ◌∷◌, ◌≡◌, ◌≤◌, ◌^◌}
+use N.{AddsUnits, Bool, Each1, Fits, List, ap, arith, chunk, drop, false, get_or, is_half, is_long, is_wide, length, map, mask_l, quad_bytes, refl, suc, sym}
+use N.{take, triples, true, unit_text, units_text, w16, zero, ℕ, [], ◌%◌, ◌*◌, ◌++◌, ◌+◌, ◌-◌, ◌/◌, ◌<◌, ◌^◌, ◌↔◌, ◌∙◌, ◌∷◌, ◌≡◌, ◌≤◌}
 use N.LaneMasks.{first_lanes, first_mask, front_alike, last_lanes, none_set}
 use N.Characters.{of_one, of_two, of_three, doubled_character}
 use N.Lookup.{bits, placed, same_texts, IsRow, pair_places, quad_places}
@@ -12,40 +12,27 @@ use Rattle.std.specs.List.{count_by}
 use Rattle.std.specs.Prelude.{count_ones, flat_map}
 use lib.Lanes.{zip2}
 
--- the bytes of a unit's text, at the places for it
-pair_text : (u : ℕ) → is_long u ≡ false → map (λ k. get_or (N.pair_bytes u) k 0) (pair_places (is_wide u) (is_long u)) ≡ unit_text u
-pair_text = grind (arith, of_one, of_two)
-
-quad_text : (u : ℕ) → u < 65536 → map (λ k. get_or (quad_bytes u) k 0) (quad_places (is_wide u) (is_long u)) ≡ unit_text u
-quad_text = grind (arith, of_one, of_two, of_three, doubled_character)
-
 plain_text : (u : ℕ) → is_wide u ≡ false → unit_text u ≡ u ∷ []
 plain_text = grind (arith, of_one)
 
-long_text : (u : ℕ) → u < 65536 → is_long u ≡ true → unit_text u ≡ (224 + u / 4096) ∷ (128 + u / 64 % 64) ∷ (128 + u % 64) ∷ []
-long_text = grind (arith, of_three)
-
--- how long the text of units is
+-- how long the text of a unit is, and that of units
 unit_size : (u : ℕ) → u < 65536 → length (unit_text u) ≡ 1 + (N.cond (is_wide u) 1 0 + N.cond (is_long u) 1 0)
 unit_size = grind (arith, of_one, of_two, of_three, doubled_character)
 
-units_size : (us : List ℕ) → Each1 (λ u. u < 65536) us → length (units_text us) ≡ length us + (count_by is_wide us + count_by is_long us)
-units_size [] small = refl
-units_size (u ∷ us) small = let one = unit_size u small.0 in let more = units_size us small.1 in
-    grind (arith, N.length-append, N.common_steps)
-
 text_size : (us : List ℕ) {wide long : ℕ} → Each1 (λ u. u < 65536) us → wide ≡ mask_l (map is_wide us) → long ≡ mask_l (map is_long us)
     → length (units_text us) ≡ length us + (count_ones wide + count_ones long)
-text_size = grind (arith, N.ones-mask_l, units_size)
+text_size us range wide_is long_is = rw (wide_is, long_is, N.ones-mask_l, N.ones-mask_l) (sizes us range)
+  where
+    sizes : (us : List ℕ) → Each1 (λ u. u < 65536) us → length (units_text us) ≡ length us + (count_by is_wide us + count_by is_long us)
+    sizes [] small = refl
+    sizes (u ∷ us) small = let one = unit_size u small.0 in let more = sizes us small.1 in grind (arith, N.length-append, N.common_steps)
 
 -- units are numbers of 16 bits
 unit_range : (us : List ℕ) → Each1 (Fits w16) us → Each1 (λ u. u < 65536) us
 unit_range = N.below_from_Fits w16
 
 pub each_taken : (P : ℕ → Type 0) (n : ℕ) (us : List ℕ) → Each1 P us → Each1 P (take n us)
-each_taken P zero us each = tt
-each_taken P (suc n) [] each = tt
-each_taken P (suc n) (u ∷ us) each = (each.0, each_taken P n us each.1)
+each_taken P = N.Each1-chunk P 0
 
 each_left : (P : ℕ → Type 0) (n : ℕ) (us : List ℕ) → Each1 P us → Each1 P (drop n us)
 each_left P zero us each = each
@@ -78,7 +65,7 @@ pairs_taken us n {wide} eight few fits bytes is short =
     rw size at (row_taken 2 8 N.pair_bytes pair_places (λ u. refl) (grind arith) vs (flat_map N.pair_bytes (drop n us))
     (N.Lookup.pair_row wide (first_mask is_wide us n eight few is).0)
     (omega arith) (bytes ∙ split_lanes N.pair_bytes n us) is (sym (none_set is_long vs short)) (unit_range vs (each_taken (Fits w16) n us fits))
-    (same_texts pair_text vs short))
+    (same_texts (grind (arith, of_one, of_two)) vs short))
 
 -- and that of any from the bytes of four
 pub quads_taken : (us more : List ℕ) {xs : List ℕ} {wide long : ℕ} → length us ≤ 4 → wide < 16 → long < 16 → xs ≡ flat_map quad_bytes us ++ more
@@ -86,14 +73,10 @@ pub quads_taken : (us more : List ℕ) {xs : List ℕ} {wide long : ℕ} → len
     → take (length us + count_ones (wide + 16 * long)) (map (λ j. get_or xs j 0) (get_or N.QUADS (wide + 16 * long) [])) ≡ units_text us
 quads_taken us more {wide} {long} few small small' is wide_is long_is range =
     rw (← (N.Lookup.ones_of_two wide long small small').0) at (row_taken 4 4 quad_bytes quad_places (λ u. refl) (grind arith) us more
-    (N.Lookup.quad_row wide long small small') few is wide_is long_is range (same_texts quad_text us range))
+    (N.Lookup.quad_row wide long small small') few is wide_is long_is range (same_texts (grind (arith, of_one, of_two, of_three, doubled_character)) us range))
 
 take_both : (n m : ℕ) (us : List ℕ) → take n (take m us) ≡ take m (take n us)
-take_both zero zero us = refl
-take_both zero (suc m) us = refl
-take_both (suc n) zero us = refl
-take_both (suc n) (suc m) [] = refl
-take_both (suc n) (suc m) (u ∷ us) = ap (λ vs. u ∷ vs) (take_both n m us)
+take_both = grind (arith, N.cases_lt, N.take-take, N.take_all, N.length-take)
 
 -- what was written of so many characters: of the first four, and of all
 module _ (us : List ℕ) (n : ℕ) {old new xs : List ℕ} {at end m wide long : ℕ} (fits : (length us ≡ 8) × Each1 (Fits w16) us) (few : n ≤ 8)
@@ -132,16 +115,17 @@ long_texts (suc n) [] small each =
     rw three refl
 long_texts (suc n) (u ∷ us) small each =
     let three : 3 * suc n ≡ suc (suc (suc (3 * n))) = omega arith in
-    rw (three, long_text u small.0 each.0, ← long_texts n us small.1 each.1) refl
+    let text : unit_text u ≡ (224 + u / 4096) ∷ (128 + u / 64 % 64) ∷ (128 + u % 64) ∷ [] = grind (arith, of_three, small.0, each.0) in
+    rw (three, text, ← long_texts n us small.1 each.1) refl
+
+shorter : (k m : ℕ) (xs ys : List ℕ) → k ≤ m → take m xs ≡ take m ys → take k xs ≡ take k ys
+shorter k m xs ys few same = rw (← N.take-take k m xs few, same) (N.take-take k m ys few)
 
 -- the text of the first of them is in the first half, or in two
 module _ (us low old new : List ℕ) (at n : ℕ) (fits : Each1 (Fits w16) us) (long : Each1 (λ u. is_long u ≡ true) (take n us))
     (low_is : take 12 low ≡ take 12 (triples us)) where
   pub in_one_half : n ≤ 4 → take (at + 3 * n) new ≡ take at old ++ take (3 * n) low → take (at + 3 * n) new ≡ take at old ++ units_text (take n us)
-  in_one_half few written =
-      let front : take (3 * n) low ≡ take (3 * n) (triples us) =
-      rw (← N.take-take (3 * n) 12 low (omega arith), low_is, N.take-take (3 * n) 12 (triples us) (omega arith)) refl in
-      grind (arith, long_texts, unit_range)
+  in_one_half few written = let front = shorter (3 * n) 12 low (triples us) (omega arith) low_is in grind (arith, long_texts, unit_range)
 
   pub in_two_halves : (high middle : List ℕ) → 4 < n → n ≤ 8 → take 12 high ≡ take 12 (drop 12 (triples us))
       → take (at + 12) middle ≡ take at old ++ take 12 low → take (at + 12 + (3 * n - 12)) new ≡ take (at + 12) middle ++ take (3 * n - 12) high
@@ -149,8 +133,7 @@ module _ (us low old new : List ℕ) (at n : ℕ) (fits : Each1 (Fits w16) us) (
   in_two_halves high middle many most high_is first second =
       let k = 3 * n - 12 in
       let all : 12 + k ≡ 3 * n = omega arith in
-      let back : take k high ≡ take k (drop 12 (triples us)) =
-      rw (← N.take-take k 12 high (omega arith), high_is, N.take-take k 12 (drop 12 (triples us)) (omega arith)) refl in
+      let back = shorter k 12 high (drop 12 (triples us)) (omega arith) high_is in
       let joined : take 12 (triples us) ++ take k (drop 12 (triples us)) ≡ units_text (take n us) =
       grind (arith, N.take-add, long_texts, unit_range) in
       grind (arith, N.append_assoc)
@@ -161,17 +144,6 @@ plain_texts zero ys each = refl
 plain_texts n [] each = grind arith
 plain_texts n (low ∷ []) each = grind arith
 plain_texts (suc n) (low ∷ high ∷ ys) each = grind (arith, plain_text (low + 256 * high) each.0, plain_texts n ys each.1)
-
--- a surrogate is long, and so it is wide
-pub no_half : (u : ℕ) → is_long u ≡ false → is_half u ≡ false
-no_half = grind arith
-
-pub not_long : (u : ℕ) → is_wide u ≡ false → is_long u ≡ false
-not_long = grind arith
-
--- what isn't one of the others is long and no surrogate
-pub no_other : (u : ℕ) → N.is_other u ≡ false → (is_long u ≡ true) × (is_half u ≡ false)
-no_other = grind arith
 
 -- two bytes are a unit
 pub length-units : (xs : List ℕ) → length (units xs) ≡ length xs / 2
@@ -194,46 +166,46 @@ evens_at (suc k) (a ∷ b ∷ zs) long = ap (λ l. a ∷ l) (later_places k a b 
 evens_at k zs long = grind arith
 
 -- units below 128 whose low bytes are no quotes are characters of ASCII and no quotes
-plain_bytes : (ys : List ℕ) → Each1 (λ u. u < 128) (units ys) → Each1 (λ b. N.is_unquoted b ≡ true) (N.evens ys) → Each1 (λ u. is_wide u ≡ false) (units ys)
-plain_bytes [] small none = tt
-plain_bytes (low ∷ []) small none = tt
-plain_bytes (low ∷ high ∷ ys) small none = (grind (arith, small.0, none.0), plain_bytes ys small.1 none.1)
+plain_units : (ys : List ℕ) → Each1 (λ u. is_wide u ≡ false) (units ys) ↔ (Each1 (λ u. u < 128) (units ys) × Each1 (λ b. N.is_unquoted b ≡ true) (N.evens ys))
+plain_units [] = (λ _. (tt, tt), λ _. tt)
+plain_units (low ∷ []) = (λ _. (tt, tt), λ _. tt)
+plain_units (low ∷ high ∷ ys) =
+    let more = plain_units ys in (
+      λ plain. let here : (low + 256 * high < 128) × (N.is_unquoted low ≡ true) = grind (arith, plain.0) in
+          let later = more.0 plain.1 in ((here.0, later.0), (here.1, later.1)),
+      λ parts. (grind (arith, parts.0.0, parts.1.0), more.1 (parts.0.1, parts.1.1)),
+    )
 
-bytes_plain : (ys : List ℕ) → Each1 (λ u. is_wide u ≡ false) (units ys) → Each1 (λ u. u < 128) (units ys) × Each1 (λ b. N.is_unquoted b ≡ true) (N.evens ys)
-bytes_plain [] plain = (tt, tt)
-bytes_plain (low ∷ []) plain = (tt, tt)
-bytes_plain (low ∷ high ∷ ys) plain =
-    let more = bytes_plain ys plain.1 in
-    let here : (low + 256 * high < 128) × (N.is_unquoted low ≡ true) = grind (arith, plain.0) in
-    ((here.0, more.0), (here.1, more.1))
+units-append : (k : ℕ) (xs ys : List ℕ) → length xs ≡ 2 * k → units (xs ++ ys) ≡ units xs ++ units ys
+units-append zero [] ys long = refl
+units-append (suc k) (low ∷ high ∷ xs) ys long = ap (λ us. (low + 256 * high) ∷ us) (units-append k xs ys (omega arith))
+units-append k xs ys long = grind arith
+
+each-append : (P : ℕ → Type 0) (xs ys : List ℕ) → Each1 P (xs ++ ys) ↔ (Each1 P xs × Each1 P ys)
+each-append P [] ys = (λ each. (tt, each), λ both. both.1)
+each-append P (x ∷ xs) ys = let more = each-append P xs ys in
+    (λ each. ((each.0, (more.0 each.1).0), (more.0 each.1).1), λ both. (both.0.0, more.1 (both.0.1, both.1)))
 
 -- those of two loads, of which the first has so many
-pub both_plain : (k : ℕ) (xs ys : List ℕ) → length xs ≡ 2 * k → Each1 (λ u. u < 128) (units xs) → Each1 (λ u. u < 128) (units ys)
-    → Each1 (λ b. N.is_unquoted b ≡ true) (N.evens (xs ++ ys)) → Each1 (λ u. is_wide u ≡ false) (units (xs ++ ys))
-both_plain zero [] ys long first second none = plain_bytes ys second none
-both_plain (suc k) (low ∷ high ∷ xs) ys long first second none =
-    (grind (arith, first.0, none.0), both_plain k xs ys (omega arith) first.1 second none.1)
-both_plain k xs ys long first second none = grind arith
-
-pub plain_both : (k : ℕ) (xs ys : List ℕ) → length xs ≡ 2 * k → Each1 (λ u. is_wide u ≡ false) (units (xs ++ ys))
-    → Each1 (λ u. u < 128) (units xs) × Each1 (λ u. u < 128) (units ys) × Each1 (λ b. N.is_unquoted b ≡ true) (N.evens (xs ++ ys))
-plain_both zero [] ys long plain = let both = bytes_plain ys plain in (tt, both.0, both.1)
-plain_both (suc k) (low ∷ high ∷ xs) ys long plain =
-    let more = plain_both k xs ys (omega arith) plain.1 in
-    let here : (low + 256 * high < 128) × (N.is_unquoted low ≡ true) = grind (arith, plain.0) in
-    ((here.0, more.0), more.1, (here.1, more.2))
-plain_both k xs ys long plain = grind arith
+pub both_plain : (k : ℕ) (xs ys : List ℕ) → length xs ≡ 2 * k → Each1 (λ u. is_wide u ≡ false) (units (xs ++ ys))
+    ↔ ((Each1 (λ u. u < 128) (units xs) × Each1 (λ u. u < 128) (units ys)) × Each1 (λ b. N.is_unquoted b ≡ true) (N.evens (xs ++ ys)))
+both_plain k xs ys long =
+    let joined = units-append k xs ys long in (
+      λ plain. let parts = (plain_units (xs ++ ys)).0 plain in ((each-append _ _ _).0 (rw joined at parts.0), parts.1),
+      λ parts. (plain_units (xs ++ ys)).1 (rw joined ((each-append _ _ _).1 parts.0), parts.1),
+    )
 
 -- the first of so many are characters of ASCII, and were written
 pub plain_added : (ys old new kept : List ℕ) {us low : List ℕ} {at : ℕ} (n w : ℕ) → n ≤ w → at ≤ length old → us ≡ units ys
     → take n kept ≡ take n us → Each1 (λ u. is_wide u ≡ false) kept → low ≡ N.evens ys → take (at + w) new ≡ take at old ++ take w low
-    → (take (at + n) new ≡ take at old ++ units_text (take n (units ys))) × Each1 (λ u. is_half u ≡ false) (take n (units ys))
-plain_added ys old new kept {low} {at} n w few within is same none low_is written =
-    let plain = rw (same, is) at (each_taken _ n kept none) in (
-      (rw (N.take-take n w low few, low_is) at (N.Characters.front_written old new (take w low) at n w few within written)) ∙ ap (λ l. take at old ++ l)
-          (plain_texts n ys plain),
-      N.Each1-weaker _ _ (grind arith) _ plain,
-    )
+    → AddsUnits old new at (at + n) n (units ys)
+plain_added ys old new kept {low = low} {at} n w few within is same none low_is written =
+    let plain = rw (same, is) at (each_taken _ n kept none) in record {
+      most = omega arith;
+      written = rw (N.take-take n w low few, low_is) at (N.Characters.front_written old new _ at n w few within written)
+          ∙ ap (λ l. take at old ++ l) (plain_texts n ys plain);
+      single = N.Each1-weaker _ _ (grind arith) _ plain;
+    }
 
 leads_unit : (low high : ℕ) (more : List ℕ) → is_half (low + 256 * high) ≡ false → N.Leads rest text (low ∷ high ∷ more) more (unit_text (low + 256 * high))
 leads_unit = grind (arith, N.Utf16Steps.next_one)
@@ -260,35 +232,33 @@ pub none_converted : (bytes to : List ℕ) → N.Converts bytes to 0 0
 none_converted bytes to = record { within = omega arith; room = omega arith; leads = Leads-none }
 
 -- so many units of a source that begins with the bytes were converted after what was before
-pub units_more : {bytes source old new : List ℕ} {at made after : ℕ} (n w : ℕ) → N.LiesIn bytes source → at + 2 * w ≤ length source → n ≤ w
-    → Each1 (λ u. is_half u ≡ false) (take n (units (chunk at (2 * w) source))) → at + 2 * n ≤ length bytes → after ≤ made + 3 * n
-    → take after new ≡ take made old ++ units_text (take n (units (chunk at (2 * w) source))) → N.Converts bytes old at made
+pub units_more : {bytes source old new : List ℕ} {at made after n : ℕ} (w : ℕ) → N.LiesIn bytes source → at + 2 * w ≤ length source → n ≤ w
+    → at + 2 * n ≤ length bytes → AddsUnits old new made after n (units (chunk at (2 * w) source)) → N.Converts bytes old at made
     → N.Converts bytes new (at + 2 * n) after
-units_more {bytes} {source} {at} n w lies room few single within small written before =
+units_more {bytes} {source} {at = at} {n = n} w lies room few within added before =
     let ys = chunk at (2 * w) source in
     let counted : length (units ys) ≡ w = omega (arith, length-units ys, N.length-chunk at (2 * w) source room) in
     let next = rw (← (front_alike bytes source at (2 * n) (2 * w) lies (omega arith) within), N.take-append-drop, N.drop-drop (2 * n) at bytes) at
-    (leads_front n ys (drop (2 * n) (drop at bytes)) (omega arith) single) in
-    record { within = within; room = omega arith; leads = rw written (Leads-trans before.leads next) }
+    (leads_front n ys (drop (2 * n) (drop at bytes)) (omega arith) added.single) in
+    let most = added.most in
+    record { within = within; room = omega arith; leads = rw added.written (Leads-trans before.leads next) }
 
 -- so were all of so many units of the bytes
 pub all_more : {bytes old new : List ℕ} {at made after : ℕ} (w : ℕ) → at + 2 * w ≤ length bytes
-    → Each1 (λ u. is_half u ≡ false) (take w (units (chunk at (2 * w) bytes))) → after ≤ made + 3 * w
-    → take after new ≡ take made old ++ units_text (take w (units (chunk at (2 * w) bytes))) → N.Converts bytes old at made
-    → N.Converts bytes new (at + 2 * w) after
-all_more {bytes} w room single small written before = units_more w w (lies_itself bytes) room (omega arith) single room small written before
+    → AddsUnits old new made after w (units (chunk at (2 * w) bytes)) → N.Converts bytes old at made → N.Converts bytes new (at + 2 * w) after
+all_more {bytes} w room = units_more w (lies_itself bytes) room (omega arith) room
 
 -- so were sixteen units of two loads, of characters of ASCII
 pub plain_more : {bytes old new low : List ℕ} {at end made : ℕ} → at + 32 ≤ end → length new ≡ length old
     → Each1 (λ u. is_wide u ≡ false) (units (chunk at 16 bytes ++ chunk (at + 16) 16 bytes)) → low ≡ N.evens (chunk at 16 bytes ++ chunk (at + 16) 16 bytes)
     → take (made + 16) new ≡ take made old ++ take 16 low → N.MayConvertSingles bytes old at end made
     → N.MayConvertSingles bytes new (at + 32) end (made + 16)
-plain_more {bytes} {old} {new} {low} {at} {end} {made} room same plain low_is written may =
+plain_more {bytes} {old} {new} {at = at} room same plain low_is written may =
     let two = two_chunks 16 16 at bytes in
-    let added = plain_added (chunk at 32 bytes) old new _ 16 16 (omega N.arith) (omega N.arith) refl refl (rw two at plain) (low_is ∙ ap N.evens two) written in
     record {
-      before = all_more 16 (omega N.arith) added.1 (omega N.arith) added.0 may.before;
+      before = all_more 16 (omega arith) (plain_added (chunk at 32 bytes) old new _ 16 16 (omega arith) (omega arith) refl refl (rw two at plain)
+          (low_is ∙ ap N.evens two) written) may.before;
       more = room;
       within = may.within;
-      room = omega N.arith;
+      room = omega arith;
     }

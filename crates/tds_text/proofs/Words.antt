@@ -15,7 +15,7 @@ pub use Rattle.std.proofs.lemmas.List.{map-append, take_more, drop_more, drop_at
 pub use Rattle.std.proofs.lemmas.List.Sums.{prefix_len-le-length}
 pub use Rattle.std.proofs.lemmas.Simd.{swz_l, map-map, mask_l-mod, length-chunk, chunk-fits, first_set_mask_l, splat_is_map, zip2_splat, zip2_splat_left}
 pub use Rattle.std.proofs.lemmas.Simd.{SwzOk-from_below, length-put_chunk, take_more_put_chunk, Each2-splat, Each1-all, Each1-weaker, below_from_Fits}
-pub use Rattle.std.proofs.lemmas.Simd.{ones-mask_l, zip2-map, length-zip2, Each1-zip2, Each2-of}
+pub use Rattle.std.proofs.lemmas.Simd.{ones-mask_l, zip2-map, length-zip2, Each1-zip2, Each2-of, Each1-chunk}
 pub use Rattle.std.proofs.lemmas.Str.{is_utf8-from_IsUtf8, utf8_valid_len_le, IsUtf8-from_is_utf8, IsUtf8-nil, utf8_valid_len-IsUtf8}
 pub use Rattle.std.proofs.lemmas.Str.{encodes-append, IsUtf8-append, IsUtf8-drop, IsUtf8-encode, IsCharBoundary-from_take, length-encode, len_utf8_bounds}
 pub use Rattle.std.proofs.str.Laws.{Scalar, Follows, Shape, of1, of2, of3, of4, shape}
@@ -36,7 +36,7 @@ pub use Rattle.tds_text.specs.Plain.{ArePlain, LiesIn, first_set, is_plain, even
 pub use Rattle.tds_text.specs.Quoting.{quote, doubled, doubled_byte, quoted_field, binary_field, line, after_comma}
 pub use Rattle.tds_text.specs.declared.windows_1252.TheConstants.{UPPER}
 pub use Rattle.tds_text.specs.Utf16Next.{Converts, LeavesRest, MayConvertSingles, seam}
-pub use Rattle.tds_text.specs.Wide.{AddsQuads, high_quad, is_half, is_long, is_other, is_wide, low_and_high, low_quad, pair, pair_bytes, quad_bytes}
+pub use Rattle.tds_text.specs.Wide.{AddsQuads, AddsUnits, high_quad, is_half, is_long, is_other, is_wide, low_and_high, low_quad, pair, pair_bytes, quad_bytes}
 pub use Rattle.tds_text.specs.Wide.{triples, unit_text, units_text}
 pub use Rattle.tds_text.specs.declared.places.TheConstants.{FIRST, PAIRS, QUADS}
 pub use borrow.Rule.Slice.PartMut.{put_mid, post_of}

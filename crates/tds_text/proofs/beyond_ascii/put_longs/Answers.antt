@@ -1,18 +1,17 @@
 use Rattle.tds_text.proofs as N
-use N.{◌∙◌}
+use N.{◌≡◌}
 use N.beyond_ascii.put_longs.Goals as goal
 use N.LaneMasks.{none_of_first, none_passes, zeros_after}
-use N.WideText.{each_taken, no_other}
+use N.WideText.{each_taken}
 
 pub put_triples-requires-clause-long : goal.put_triples-requires-clause-long
-put_triples-requires-clause-long c = N.Each1-weaker _ _ (λ u h. (no_other u h).0) _
-    (grind (N.arith, none_of_first))
+put_triples-requires-clause-long c = N.Each1-weaker (λ u. N.is_other u ≡ N.false) _ (grind N.arith) _ (grind (N.arith, none_of_first))
 
 pub returns-then-lowest-eq0 : goal.returns-then-lowest-eq0
 returns-then-lowest-eq0 c = record {
   most = omega N.arith;
   written = c.put_triples.ensures;
-  single = grind (N.arith, N.Each1-weaker, no_other, none_of_first);
+  single = N.Each1-weaker (λ u. N.is_other u ≡ N.false) _ (grind N.arith) _ (grind (N.arith, none_of_first));
 }
 
 pub put_mixed-requires-clause-wide : goal.put_mixed-requires-clause-wide

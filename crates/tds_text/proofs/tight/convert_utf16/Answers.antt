@@ -8,19 +8,15 @@ pub convert_ascii-plain-requires : goal.convert_ascii-plain-requires
 convert_ascii-plain-requires c =
     let bytes = c.args.bytes.now in
     let few = length bytes / 2 % 16 in
-    let some = few % 8 in
-    let first = c.in_ok-first.ensures in
-    let second = c.in_ok-second.ensures in
-    let at : 0 + 2 * some ≡ 2 * some = omega N.arith in
-    let begun = rw at at (units_more {at = 0} {made = 0} some 8 (lies_itself bytes) (omega N.arith) (omega N.arith) first.single (omega N.arith) first.most
-    first.written (none_converted bytes c.args.to.now)) in
-    let all : 2 * some + 2 * (few - some) ≡ 2 * few = omega N.arith in
+    let at : 0 + 2 * (few % 8) ≡ 2 * (few % 8) = omega N.arith in
+    let begun = rw at at (units_more {at = 0} {made = 0} 8 (lies_itself bytes) (omega N.arith) (omega N.arith) (omega N.arith)
+    c.in_ok-first.ensures (none_converted bytes c.args.to.now)) in
+    let all : 2 * (few % 8) + 2 * (few - few % 8) ≡ 2 * few = omega N.arith in
     record {
-      before = rw all at (units_more {at = 2 * some} {made = c.in_ok-first.first} (few - some) 8 (lies_itself bytes) (omega N.arith) (omega N.arith)
-          second.single (omega N.arith) second.most second.written begun);
+      before = rw all at (units_more {at = 2 * (few % 8)} 8 (lies_itself bytes) (omega N.arith) (omega N.arith) (omega N.arith) c.in_ok-second.ensures begun);
       more = omega N.arith;
       within = omega N.arith;
-      room = omega N.arith;
+      room = omega (N.arith, c.in_ok-first.ensures.most, c.in_ok-second.ensures.most);
     }
 
 -- a text and more after it

@@ -3,17 +3,12 @@ use N.utf16.convert_full.Goals as goal
 use N.WideText.{all_more}
 
 pub loop-end-preserved : goal.loop-end-preserved
-loop-end-preserved c =
-    let end = c.in-Some.ensures in
-    record {
-      more = omega N.arith;
-      room = omega N.arith;
-      long = search N.rules;
-      now = all_more 8 (omega N.arith) end.single end.most end.written c.loop-end.invariant.now;
-    }
+loop-end-preserved c = record {
+  more = omega N.arith;
+  room = omega N.arith;
+  long = search N.rules;
+  now = all_more 8 (omega N.arith) c.in-Some.ensures c.loop-end.invariant.now;
+}
 
 pub returns-then-at-last : goal.returns-then-at-last
-returns-then-at-last c = let end = c.in-Some.ensures in record {
-  more = omega N.arith;
-  after = all_more 8 (omega N.arith) end.single end.most end.written c.loop-end.invariant.now;
-}
+returns-then-at-last c = record { more = omega N.arith; after = all_more 8 (omega N.arith) c.in-Some.ensures c.loop-end.invariant.now }
