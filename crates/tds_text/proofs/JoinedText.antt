@@ -18,12 +18,8 @@ run_joins : (k : ℕ) (xs : List ℕ) (n : ℕ) → k < length xs
     → n ≤ N.prefix_len is_joined (zip2 (λ b next. (b, next)) (take k xs) (take k (drop 1 xs))) → AreJoined n xs
 unfolding AreJoined
 run_joins k xs zero long few = tt
-run_joins zero xs (suc n) long few = grind arith
-run_joins (suc k) [] (suc n) long few = grind arith
-run_joins (suc k) (a ∷ []) (suc n) long few = grind arith
-run_joins (suc k) (a ∷ b ∷ xs) (suc n) long few =
-    let here : is_joined (a, b) ≡ true = grind arith in
-    (here, run_joins k (b ∷ xs) n (omega arith) (grind arith))
+run_joins (suc k) (a ∷ b ∷ xs) (suc n) long few = (grind arith, run_joins k (b ∷ xs) n (omega arith) (grind arith))
+run_joins k xs (suc n) long few = grind arith
 
 joined_at : (source : List ℕ) (at n : ℕ) → at + 16 < length source → n ≤ N.prefix_len is_joined (pairs_at at source) → AreJoined n (drop at source)
 joined_at source at n there few = run_joins 16 (drop at source) n (grind (arith, N.length-drop)) (rw (drop-drop 1 at source) few)
@@ -43,28 +39,21 @@ joined_text : (n : ℕ) (xs : List ℕ) → AreJoined n xs → is_trail (get_or 
     → IsUtf8 (take n xs) × (doubled (take n xs) ≡ take n xs)
 unfolding AreJoined
 joined_text zero xs joined first last = grind arith
-joined_text (suc n) [] joined first last = absurd joined
-joined_text (suc n) (a ∷ []) joined first last = absurd joined
-joined_text (suc zero) (a ∷ b ∷ xs) joined first last =
-    let other : is_lead a ≡ false = last 0 N.refl in
+joined_text (suc zero) (a ∷ b ∷ xs) joined first last = let other : is_lead a ≡ false = last 0 N.refl in
     after_one a [] (grind arith) (N.IsUtf8-nil, N.refl)
-joined_text (suc (suc n)) (a ∷ b ∷ []) joined first last = absurd joined.1
 joined_text (suc (suc n)) (a ∷ b ∷ d ∷ xs) joined first last = elim (cases_Bool (is_lead a)) [
-  | N.inl lead ↦
-      let trail : is_trail b ≡ true = grind arith in
-      let more = joined_text n (d ∷ xs) joined.1.1 (grind arith) (λ k is. last (suc (suc k)) (ap suc (ap suc is))) in
-      after_two a b (take n (d ∷ xs)) lead trail more
-  | N.inr other ↦
-      after_one a (take (suc n) (b ∷ d ∷ xs)) (grind arith) (joined_text (suc n) (b ∷ d ∷ xs) joined.1 (grind arith) (λ k is. last (suc k) (ap suc is)))
+  | N.inl lead ↦ after_two a b (take n (d ∷ xs)) lead (grind arith) (joined_text n (d ∷ xs) joined.1.1 (grind arith) (λ k is. last (suc (suc k)) (omega arith)))
+  | N.inr other ↦ after_one a (take (suc n) (b ∷ d ∷ xs)) (grind arith)
+      (joined_text (suc n) (b ∷ d ∷ xs) joined.1 (grind arith) (λ k is. last (suc k) (omega arith)))
 ]
+joined_text n xs joined first last = grind arith
 
 -- before a byte that begins a character of two bytes no other one does
 lead_after : (n : ℕ) (xs : List ℕ) → AreJoined (suc (suc n)) xs → is_lead (get_or xs (suc n) 0) ≡ true → is_lead (get_or xs n 0) ≡ false
 unfolding AreJoined
-lead_after n [] joined last = absurd joined
-lead_after n (a ∷ []) joined last = absurd joined
 lead_after zero (a ∷ b ∷ xs) joined last = grind arith
 lead_after (suc n) (a ∷ b ∷ xs) joined last = lead_after n (b ∷ xs) joined.1 last
+lead_after n xs joined last = grind arith
 
 module _ (bytes source : List ℕ) (at : ℕ) (lies : N.LiesIn bytes source) (there : at + 16 < length source)
     (first : is_trail (get_or source at 0) ≡ false) (n : ℕ) (within : at + n ≤ length bytes) (few : n ≤ N.prefix_len is_joined (pairs_at at source)) where

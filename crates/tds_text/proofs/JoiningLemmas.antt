@@ -6,6 +6,9 @@ use N.{Leads, List, [], ap, arith, drop, emit, length, take, ℕ, ◌++◌, ◌+
 pub doubled-append : (x y : List ℕ) → N.doubled (x ++ y) ≡ N.doubled x ++ N.doubled y
 doubled-append = N.flat_map-append N.doubled_byte
 
+pub doubled_bytewise : N.IsBytewise N.doubled
+doubled_bytewise = record { appends = doubled-append; empty = N.refl }
+
 -- what stands before the rest is settled
 pub settled_front : (rest : List ℕ → List ℕ) (bytes front : List ℕ) → bytes ≡ front ++ rest bytes → N.settled rest bytes ≡ front
 settled_front = grind (arith, N.length-append, N.take_at)

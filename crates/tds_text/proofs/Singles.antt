@@ -10,10 +10,11 @@ module _ (text : List ℕ → List ℕ) (appends : (x y : List ℕ) → text (x 
   pub runs : (t e : ℕ) (xs : List ℕ) → t ≤ e → text (take t xs) ++ text (take (e - t) (drop t xs)) ≡ text (take e xs)
   runs t e xs h = let end : t + (e - t) ≡ e = omega arith in grind (arith, N.take-add)
 
+module _ {text : List ℕ → List ℕ} (law : N.IsBytewise text) where
   -- which were added to it
   pub text_taken : {run after : List ℕ} (bytes : List ℕ) (at n : ℕ) → after ≡ run ++ text (take n (drop at bytes)) → run ≡ text (take at bytes)
       → after ≡ text (take (at + n) bytes)
-  text_taken = grind (arith, N.take-add)
+  text_taken = grind (arith, N.take-add, law.appends)
 
   -- bytes that stand for themselves were
   pub itself_taken : {run after : List ℕ} (bytes : List ℕ) (at n : ℕ) → after ≡ run ++ take n (drop at bytes)
@@ -23,15 +24,15 @@ module _ (text : List ℕ → List ℕ) (appends : (x y : List ℕ) → text (x 
   -- that of one byte was
   pub one_taken : {run after : List ℕ} (bytes : List ℕ) (at : ℕ) → at < N.length bytes → after ≡ run ++ text (get_or bytes at 0 ∷ [])
       → run ≡ text (take at bytes) → after ≡ text (take (at + 1) bytes)
-  one_taken = grind (arith, N.take_more)
+  one_taken = grind (arith, N.take_more, law.appends)
 
   -- bytes that stand for themselves, up to the first that needn't
-  module _ (q : ℕ → N.Bool) (empty : text [] ≡ []) (itself : (b : ℕ) → q b ≡ true → text (b ∷ []) ≡ b ∷ []) where
+  module _ (q : ℕ → N.Bool) (itself : (b : ℕ) → q b ≡ true → text (b ∷ []) ≡ b ∷ []) where
     -- the first of them, so many
     some_itself : (k : ℕ) (xs : List ℕ) → k ≤ N.prefix_len q xs → text (take k xs) ≡ take k xs
-    some_itself N.zero xs h = empty
+    some_itself N.zero xs h = law.empty
     some_itself (N.suc k) [] h = grind arith
-    some_itself (N.suc k) (b ∷ xs) h = grind (arith, appends (b ∷ []) (take k xs), some_itself k xs)
+    some_itself (N.suc k) (b ∷ xs) h = grind (arith, law.appends (b ∷ []) (take k xs), some_itself k xs)
 
     -- those that were found among the next `w`
     lanes_itself : (w : ℕ) (bytes : List ℕ) (at n : ℕ) → n ≤ w → n ≡ N.prefix_len q (chunk at w bytes)
@@ -78,7 +79,7 @@ plain_text (b ∷ bytes) plain = N.SingleLaws.windows_1252-append (b ∷ []) byt
 -- those that were found among the next 32
 pub wide_lanes : (bytes : List ℕ) (at n : ℕ) → n ≤ 32 → n ≡ N.prefix_len is_plain (chunk at 32 bytes)
     → take n (chunk at 32 bytes) ≡ windows_1252.text (take n (drop at bytes))
-wide_lanes bytes at n few e = lanes_itself windows_1252.text N.SingleLaws.windows_1252-append is_plain refl plain_itself 32 bytes at n few e
+wide_lanes bytes at n few e = lanes_itself N.SingleLaws.windows_1252_bytewise is_plain plain_itself 32 bytes at n few e
 
 -- ---- bytes of ASCII without a quote
 
@@ -120,4 +121,4 @@ plain_both (b ∷ xs) ys first second = (first.0, plain_both xs ys first.1 secon
 -- those that were found among the next `w`
 pub unquoted_lanes : (w : ℕ) (bytes : List ℕ) (at n : ℕ) → n ≤ w → n ≡ N.prefix_len N.is_unquoted (chunk at w bytes)
     → take n (chunk at w bytes) ≡ N.doubled (take n (drop at bytes))
-unquoted_lanes w bytes at n few e = lanes_itself N.doubled N.JoiningLemmas.doubled-append N.is_unquoted refl (grind arith) w bytes at n few e
+unquoted_lanes w bytes at n few e = lanes_itself N.JoiningLemmas.doubled_bytewise N.is_unquoted (grind arith) w bytes at n few e

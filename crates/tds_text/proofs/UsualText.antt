@@ -1,7 +1,7 @@
 -- Text in UTF-8 that is judged while it is converted, a run after the other.
 use Rattle.tds_text.proofs as N
 use N.{◌≡◌, ◌∙◌, ◌↔◌, ℕ, ◌+◌, ◌-◌, ◌*◌, ◌<◌, ◌≤◌, List, [], ◌∷◌, ◌++◌, IsUtf8, arith, doubled, drop, get_or, length, take}
-use N.JoiningLemmas.{doubled-append}
+use N.JoiningLemmas.{doubled-append, doubled_bytewise}
 use Rattle.tds_text.specs.Utf8.{Begins, rest, text}
 use Rattle.tds_text.specs.Utf8Scan.{Converts, ConvertsBegun, IsScan}
 
@@ -25,7 +25,7 @@ module _ (bytes : List ℕ) (at made : ℕ) {old new : List ℕ} (before : Conve
     within = within;
     room = grind arith;
     whole = grind (arith, whole_after);
-    text = N.Singles.itself_taken doubled doubled-append bytes at n written itself before.text;
+    text = N.Singles.itself_taken doubled_bytewise bytes at n written itself before.text;
   }
 
   -- so were bytes of ASCII
@@ -40,7 +40,7 @@ module _ (bytes : List ℕ) (at made : ℕ) {old new : List ℕ} (before : Conve
     within = omega arith;
     room = grind arith;
     whole = rw (N.take_more bytes at 0 within) (N.IsUtf8-append (take at bytes) (get_or bytes at 0 ∷ []) before.whole (N.Singles.one_utf8 _ ascii));
-    text = N.Singles.one_taken doubled doubled-append bytes at within written before.text;
+    text = N.Singles.one_taken doubled_bytewise bytes at within written before.text;
   }
 
 -- ---- what follows whole characters
@@ -72,7 +72,7 @@ module _ {bytes to : List ℕ} (used made : ℕ) (x : Converts bytes to used mad
 
 -- what is left after some of the bytes
 pub rest_of : (bytes : List ℕ) (at : ℕ) → take (length bytes - at) (drop at bytes) ≡ drop at bytes
-rest_of bytes at = N.take_all (length bytes - at) (drop at bytes) (omega (arith, N.length-drop at bytes))
+rest_of = N.take_rest
 
 module _ {bytes to : List ℕ} (used made : ℕ) (x : Converts bytes to used made) {whole good : ℕ} where
   -- what follows begins no text
@@ -97,7 +97,6 @@ module _ {bytes to : List ℕ} (used made : ℕ) (x : Converts bytes to used mad
         within = omega (arith, scan.order, scan.most, x.within);
         left = omega (arith, scan.short, x.within);
         short = omega (arith, x.room, scan.order, scan.most, x.within);
-        text = written ∙ N.ap (λ l. l ++ doubled (take whole tail)) x.text ∙ N.ap (λ l. text (take used bytes) ++ l) (N.sym emits)
-            ∙ N.sym (whole_emits (take used bytes) tail x.whole) ∙ N.ap (N.emit rest text) split;
-        keeps = N.sym (N.drop-drop whole used bytes) ∙ scan.rest ∙ N.sym (whole_keeps (take used bytes) tail x.whole) ∙ N.ap rest split;
+        text = rw (written, x.text, ← emits) (rw split at (N.sym (whole_emits (take used bytes) tail x.whole)));
+        keeps = rw (← N.drop-drop whole used bytes, scan.rest) (rw split at (N.sym (whole_keeps (take used bytes) tail x.whole)));
       }

@@ -9,20 +9,16 @@ use Rattle.tds_text.specs.Utf8.{Begins, IsFit, rest, text}
 -- what is found going down is UTF-8, and nothing longer is
 front_up_to : (bs : List ℕ) (n : ℕ) → IsUtf8 (take (N.valid_len_up_to bs n) bs)
 front_up_to bs zero = N.IsUtf8-nil
-front_up_to bs (suc n) = elim (is_utf8 (take (suc n) bs)) as (λ t. is_utf8 (take (suc n) bs) ≡ t → IsUtf8 (take (cond t (suc n) (N.valid_len_up_to bs n)) bs))
-    [ true ↦ N.IsUtf8-from_is_utf8 (take (suc n) bs) | false ↦ λ e. front_up_to bs n ] refl
+front_up_to bs (suc n) = N.cond_both _ (suc n) _ (λ k. IsUtf8 (take k bs)) (N.IsUtf8-from_is_utf8 _) (λ _. front_up_to bs n)
 
 longest_up_to : (bs : List ℕ) (n m : ℕ) → N.valid_len_up_to bs n < m → m ≤ n → IsUtf8 (take m bs) → ⊥
 longest_up_to bs zero m below within u = omega arith
 longest_up_to bs (suc n) m below within u =
     let passed = N.is_utf8-from_IsUtf8 (take m bs) u in
-    elim (is_utf8 (take (suc n) bs)) as (λ t. is_utf8 (take (suc n) bs) ≡ t → cond t (suc n) (N.valid_len_up_to bs n) < m → ⊥) [
-      | true ↦ omega arith
-      | false ↦ λ e below. elim (cases_lt m (suc n)) [
-        | inl less ↦ longest_up_to bs n m below (omega arith) u
-        | inr whole ↦ let same = ap (λ k. is_utf8 (take k bs)) {x = m} {y = suc n} (omega arith) in cc
-      ]
-    ] refl below
+    N.cond_both _ (suc n) _ (λ k. k < m → ⊥) (λ _. omega arith) (λ (refused : is_utf8 (take (suc n) bs) ≡ false) less. elim (cases_lt m (suc n)) [
+      | inl before ↦ longest_up_to bs n m less (omega arith) u
+      | inr whole ↦ let same : m ≡ suc n = omega arith in cc
+    ]) below
 
 -- the whole characters at the front
 unfoldable pub front : List ℕ → List ℕ
@@ -161,16 +157,10 @@ front_none : (c : ℕ) (r more tail : List ℕ) → N.Scalar c → N.Shape c →
     → utf8_error_len r ≡ None
 unfolding utf8_error_len
 front_none c [] more tail k s e short = refl
-front_none c (x ∷ r) more tail k (N.of1 h e') e short = grind arith
-front_none c (x ∷ []) more tail k (N.of2 a b l u f s e') e short = grind (arith, N.length-encode)
-front_none c (x ∷ y ∷ r) more tail k (N.of2 a b l u f s e') e short = grind arith
-front_none c (x ∷ []) more tail k (of3 a b d l u f g s e') e short = grind arith
-front_none c (x ∷ y ∷ []) more tail k (of3 a b d l u f g s e') e short = grind (arith, N.length-encode, N.⊎_elim, nat_tests)
-front_none c (x ∷ y ∷ z ∷ r) more tail k (of3 a b d l u f g s e') e short = grind arith
-front_none c (x ∷ []) more tail k (of4 a b d w l u f g h s e') e short = grind arith
-front_none c (x ∷ y ∷ []) more tail k (of4 a b d w l u f g h s e') e short = grind (arith, four, N.length-encode, nat_tests)
-front_none c (x ∷ y ∷ z ∷ []) more tail k (of4 a b d w l u f g h s e') e short = grind (arith, four, N.length-encode, nat_tests)
-front_none c (x ∷ y ∷ z ∷ v ∷ r) more tail k (of4 a b d w l u f g h s e') e short = grind arith
+front_none c (x ∷ []) more tail k s e short = grind (arith, N.length-encode, four)
+front_none c (x ∷ y ∷ []) more tail k s e short = grind (arith, N.length-encode, four, N.⊎_elim, nat_tests)
+front_none c (x ∷ y ∷ z ∷ []) more tail k s e short = grind (arith, N.length-encode, four, nat_tests)
+front_none c (x ∷ y ∷ z ∷ v ∷ r) more tail k s e short = grind (arith, N.length-encode)
 
 -- where some text begins so, std finds no fault in the rest
 pub begins_none : (bytes : List ℕ) → Begins bytes → utf8_error_len (rest bytes) ≡ None
@@ -208,10 +198,7 @@ one_completes a l h =
 -- a first byte of two with the next byte is a text
 more_than_two : (a b : ℕ) (r : List ℕ) → 194 ≤ a → second_byte_min a ≤ b → b ≤ second_byte_max a → NoText (a ∷ b ∷ r) → 224 ≤ a
 unfolding NoText
-more_than_two a b r l lo hi none = elim (cases_lt a 224) [
-  | inl two ↦ absurd (none 2 (omega arith) (omega arith) (two_bytes a b l two lo hi))
-  | inr more ↦ more
-]
+more_than_two a b r l lo hi none = grind (arith, two_bytes, none 2)
 
 two_complete : (a b : ℕ) → 194 ≤ a → a ≤ 244 → second_byte_min a ≤ b → b ≤ second_byte_max a → NoText (a ∷ b ∷ []) → Begins (a ∷ b ∷ [])
 two_complete a b l h lo hi none = let x = three_complete a b 128 (more_than_two a b [] l lo hi none) h lo hi (omega arith) (omega arith) in

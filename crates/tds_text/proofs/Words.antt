@@ -7,11 +7,11 @@ pub use Rattle.std.proofs.Common.{slice_index, zero, ◌⊎◌, ◌*◌, length-
 pub use Rattle.std.proofs.Common.{bit_and}
 pub use Rattle.std.proofs.Math.ListN.{drop_of_length-le}
 pub use Rattle.std.proofs.Math.Seq.{take-append-add, drop-append-add, take-append_seam}
-pub use Rattle.std.proofs.lemmas.Bool.{or_parts, cases_lt, agree_below, agree_below_at, and_right, and_parts, ne_eqb}
+pub use Rattle.std.proofs.lemmas.Bool.{cond_both, or_parts, cases_lt, agree_below, agree_below_at, and_right, and_parts, ne_eqb}
 pub use Rattle.std.proofs.lemmas.Bool.Decides.{nat_tests}
 pub use Rattle.std.proofs.lemmas.Grind.{flat_map-append, common_steps}
 pub use Rattle.std.proofs.lemmas.List.{take-append-le, nil_from_length, map-id, take-append-drop, take-take, take_at, drop-append-le, drop-take, length-map}
-pub use Rattle.std.proofs.lemmas.List.{map-append, take_more, drop_more, drop_at, get_or-drop, take-map}
+pub use Rattle.std.proofs.lemmas.List.{map-append, take_rest, take_more, drop_more, drop_at, get_or-drop, take-map}
 pub use Rattle.std.proofs.lemmas.List.Sums.{prefix_len-le-length}
 pub use Rattle.std.proofs.lemmas.Simd.{swz_l, map-map, mask_l-mod, length-chunk, chunk-fits, first_set_mask_l, splat_is_map, zip2_splat, zip2_splat_left}
 pub use Rattle.std.proofs.lemmas.Simd.{SwzOk-from_below, length-put_chunk, take_more_put_chunk, Each2-splat, Each1-all, Each1-weaker, below_from_Fits}
@@ -28,7 +28,7 @@ pub use Rattle.std.specs.List.{prefix_len}
 pub use Rattle.std.specs.Str.{is_utf8, all_scalars, bytes_eq}
 pub use Rattle.std.specs.Str.Lossy.{utf8_error_len, utf8_valid_len, valid_len_up_to, second_byte_min, second_byte_max}
 pub use Rattle.std.specs.Prelude.{◌↔◌, slice_set, ⊤}
-pub use Rattle.tds_text.specs.Joining.{emit, JoinsPieces, settled, Leads}
+pub use Rattle.tds_text.specs.Joining.{IsBytewise, emit, JoinsPieces, settled, Leads}
 pub use Rattle.tds_text.specs.Utf8Scan.{StopsAt}
 pub use Rattle.tds_text.specs.Conversion.{Conversion, HexDigits, Utf16Text, Windows1252Text, Utf8Text, BeginsData, conversion_rest, conversion_text, is_fit}
 pub use Rattle.tds_text.specs.Conversion.{IsFit, unit, is_begun}

@@ -1,7 +1,7 @@
 use Rattle.tds_text.proofs as N
 use N.lanes_hex.encode.Goals as goal
 use N.{◌+◌, ◌≡◌, ◌*◌, ◌-◌, ◌≤◌, ℕ, length, take, drop, arith}
-use N.SingleLaws.{hex-append}
+use N.SingleLaws.{hex-append, hex_bytewise}
 
 pub loop-at-preserved : goal.loop-at-preserved
 loop-at-preserved c =
@@ -10,7 +10,7 @@ loop-at-preserved c =
       within = omega arith;
       room = search N.rules;
       digits = rw end at
-          (N.Singles.text_taken N.encode_lower (hex-append N.lower_digits) c.args.bytes.now c.loop-at.at 16 c.put_digits.ensures c.loop-at.invariant.digits);
+          (N.Singles.text_taken hex_bytewise c.args.bytes.now c.loop-at.at 16 c.put_digits.ensures c.loop-at.invariant.digits);
     }
 
 -- the digits of the other bytes were written after them

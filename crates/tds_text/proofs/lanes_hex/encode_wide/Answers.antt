@@ -1,6 +1,6 @@
 use Rattle.tds_text.proofs as N
 use N.{◌≡◌, ◌+◌, ◌*◌, ◌++◌, ℕ, take, arith}
-use N.SingleLaws.{hex-append}
+use N.SingleLaws.{hex_bytewise}
 use N.Singles.{text_taken}
 
 -- the digits of twice 32 bytes were written
@@ -12,8 +12,8 @@ two_steps bytes first second third at before one two =
     let half : 2 * at + 64 ≡ 2 * (at + 32) = omega arith in
     let all : 2 * (at + 32) + 64 ≡ 2 * (at + 64) = omega arith in
     let end : at + 32 + 32 ≡ at + 64 = omega arith in
-    let more = text_taken N.encode_lower (hex-append N.lower_digits) bytes at 32 one before in
-    rw end at (rw all at (text_taken N.encode_lower (hex-append N.lower_digits) bytes (at + 32) 32 two (rw half at more)))
+    let more = text_taken hex_bytewise bytes at 32 one before in
+    rw end at (rw all at (text_taken hex_bytewise bytes (at + 32) 32 two (rw half at more)))
 
 pub loop-at-preserved : N.lanes_hex.encode_wide.Goals.loop-at-preserved
 loop-at-preserved c = record {

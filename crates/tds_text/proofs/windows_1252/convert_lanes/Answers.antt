@@ -2,7 +2,6 @@ use Rattle.tds_text.proofs as N
 use N.windows_1252.convert_lanes.Goals as goal
 use N.Singles.{one_taken, plain_text}
 use N.{◌≡◌, take}
-use Rattle.tds_text.specs.Windows1252 as windows_1252
 
 pub returns-then-n-clause-text : goal.returns-then-n-clause-text
 returns-then-n-clause-text g c =
@@ -19,6 +18,6 @@ returns-clause-text g c =
     let written : take n c.take_plain-n.new.to ≡ take n c.args.bytes.now = grind (N.arith, c.take_plain-n.ensures.taken) in
     record {
       room = omega N.arith;
-      text = one_taken windows_1252.text N.SingleLaws.windows_1252-append c.args.bytes.now n (omega N.arith) c.put_text-made.ensures.written
+      text = one_taken N.SingleLaws.windows_1252_bytewise c.args.bytes.now n (omega N.arith) c.put_text-made.ensures.written
           (rw (plain_text _ c.take_plain-n.ensures.plain) written);
     }

@@ -1,7 +1,6 @@
 use Rattle.tds_text.proofs as N
 use N.windows_1252.convert_rest.Goals as goal
 use N.Singles.{itself_taken, one_taken, plain_text}
-use Rattle.tds_text.specs.Windows1252 as windows_1252
 
 pub loop-at-preserved-then-n-eq-LANES : goal.loop-at-preserved-then-n-eq-LANES
 loop-at-preserved-then-n-eq-LANES c =
@@ -10,7 +9,7 @@ loop-at-preserved-then-n-eq-LANES c =
       within = omega N.arith;
       long = search N.rules;
       room = omega N.arith;
-      text = itself_taken windows_1252.text N.SingleLaws.windows_1252-append _ _ _
+      text = itself_taken N.SingleLaws.windows_1252_bytewise _ _ _
           c.take_plain-n.ensures.taken (plain_text _ c.take_plain-n.ensures.plain) c.loop-at.invariant.text;
     }
 
@@ -21,7 +20,7 @@ loop-at-preserved c =
       within = omega N.arith;
       long = search N.rules;
       room = omega N.arith;
-      text = one_taken windows_1252.text N.SingleLaws.windows_1252-append c.args.bytes.now _ (search N.arith) c.put_text-made.ensures.written
-          (itself_taken windows_1252.text N.SingleLaws.windows_1252-append _ _ _ c.take_plain-n.ensures.taken
+      text = one_taken N.SingleLaws.windows_1252_bytewise c.args.bytes.now _ (search N.arith) c.put_text-made.ensures.written
+          (itself_taken N.SingleLaws.windows_1252_bytewise _ _ _ c.take_plain-n.ensures.taken
           (plain_text _ c.take_plain-n.ensures.plain) c.loop-at.invariant.text);
     }

@@ -1,13 +1,12 @@
 use Rattle.tds_text.proofs as N
 use N.windows_1252.convert_wide.Goals as goal
 use N.Singles.{one_taken, text_taken}
-use Rattle.tds_text.specs.Windows1252 as windows_1252
 
 pub convert_by_hand-made-requires-clause-before : goal.convert_by_hand-made-requires-clause-before
 convert_by_hand-made-requires-clause-before c =
     record {
       room = omega N.arith;
-      text = text_taken windows_1252.text N.SingleLaws.windows_1252-append _ _ _ c.take_wide-n.ensures.taken c.loop-at.invariant.text;
+      text = text_taken N.SingleLaws.windows_1252_bytewise _ _ _ c.take_wide-n.ensures.taken c.loop-at.invariant.text;
     }
 
 pub loop-at-preserved-then-n-eq-WIDE : goal.loop-at-preserved-then-n-eq-WIDE
@@ -16,7 +15,7 @@ loop-at-preserved-then-n-eq-WIDE c =
       within = omega N.arith;
       fits = search N.rules;
       room = omega N.arith;
-      text = text_taken windows_1252.text N.SingleLaws.windows_1252-append _ _ _ c.take_wide-n.ensures.taken c.loop-at.invariant.text;
+      text = text_taken N.SingleLaws.windows_1252_bytewise _ _ _ c.take_wide-n.ensures.taken c.loop-at.invariant.text;
     }
 
 pub loop-at-preserved-then-n-gt0 : goal.loop-at-preserved-then-n-gt0
@@ -25,8 +24,8 @@ loop-at-preserved-then-n-gt0 c =
       within = omega N.arith;
       fits = search N.rules;
       room = omega N.arith;
-      text = one_taken windows_1252.text N.SingleLaws.windows_1252-append c.args.bytes.now _ (search N.arith) c.put_text-made.ensures.written
-          (text_taken windows_1252.text N.SingleLaws.windows_1252-append _ _ _ c.take_wide-n.ensures.taken c.loop-at.invariant.text);
+      text = one_taken N.SingleLaws.windows_1252_bytewise c.args.bytes.now _ (search N.arith) c.put_text-made.ensures.written
+          (text_taken N.SingleLaws.windows_1252_bytewise _ _ _ c.take_wide-n.ensures.taken c.loop-at.invariant.text);
     }
 
 pub loop-at-init : goal.loop-at-init
