@@ -13,6 +13,3 @@ loop-at-preserved g c =
       plain = rw N.take-add (N.Singles.plain_both _ _ l.invariant.plain (N.Singles.plain_next n c.args.bytes.now l.at (grind N.arith)));
       text = c.put_lanes.ensures ∙ rw (l.invariant.text, N.take-add, N.take-take n n (N.drop l.at c.args.bytes.now) (omega N.arith)) N.refl;
     }
-
-pub put_lanes-requires : goal.put_lanes-requires
-put_lanes-requires g c = (omega N.arith, (N.length-chunk c.loop-at.at g.row.N c.args.bytes.now (omega N.arith), ((omega N.arith), (omega N.arith))))

@@ -2,9 +2,6 @@ use Rattle.tds_text.proofs as N
 use N.usual.put_few.Goals as goal
 use N.{◌≡◌, ◌∙◌, ◌++◌}
 
-pub returns-then-n-eq2-clause-written : goal.returns-then-n-eq2-clause-written
-returns-then-n-eq2-clause-written c = grind (N.arith, N.common_steps, N.UsualText.two_there, N.append_assoc)
-
 pub returns-clause-written : goal.returns-clause-written
 returns-clause-written c =
     N.Characters.three_more _ _ _ _ _ _ _ c.put_byte-one.ensures.written c.put_byte-two.ensures.written c.put_byte.ensures.written

@@ -22,6 +22,3 @@ returns-then-not-is_low-clause-gives c = alone_at c.args.bytes.now c.args.at (om
 pub returns-clause-gives : goal.returns-clause-gives
 returns-clause-gives c = pair_at c.args.bytes.now c.args.at (omega arith) c.unit-first.ensures.value c.unit-second.ensures.value
     (grind arith) (sym c.if-not-is_low.ensures)
-
-pub returns-then-bytes-at-lt4-clause-gives : goal.returns-then-bytes-at-lt4-clause-gives
-returns-then-bytes-at-lt4-clause-gives = grind (arith, held_at)

@@ -2,13 +2,6 @@ use Rattle.tds_text.proofs as N
 use N.windows_1252.convert_wide.Goals as goal
 use N.Singles.{one_taken, text_taken}
 
-pub convert_by_hand-made-requires-clause-before : goal.convert_by_hand-made-requires-clause-before
-convert_by_hand-made-requires-clause-before c =
-    record {
-      room = omega N.arith;
-      text = text_taken N.SingleLaws.windows_1252_bytewise _ _ _ c.take_wide-n.ensures.taken c.loop-at.invariant.text;
-    }
-
 pub loop-at-preserved-then-n-eq-WIDE : goal.loop-at-preserved-then-n-eq-WIDE
 loop-at-preserved-then-n-eq-WIDE c =
     record {
