@@ -1,8 +1,9 @@
 -- Text whose characters have one or two bytes, found by a look at each byte with the next one.
 use Rattle.tds_text.proofs as N
-use N.{◌≡◌, ◌∙◌, ℕ, ◌+◌, ◌-◌, ◌<◌, ◌≤◌, List, [], ◌∷◌, IsUtf8, ap, arith, doubled, drop, false, get_or, length, suc, take, true, zero}
+use N.{IsUtf8, List, ap, arith, doubled, drop, false, get_or, length, suc, take, true, zero, ℕ, [], ◌++◌, ◌+◌, ◌-◌, ◌<◌, ◌∙◌, ◌∷◌, ◌≡◌, ◌≤◌}
 use Rattle.std.proofs.lemmas.Bool.{cases_Bool}
 use Rattle.std.proofs.lemmas.List.{drop-drop}
+use Rattle.tds_text.specs.Utf8Scan.{AreUnquoted}
 use Rattle.tds_text.specs.Joined.{is_joined, is_lead, is_trail, pairs_at}
 use lib.Lanes.{zip2}
 
@@ -26,23 +27,25 @@ joined_at source at n there few = run_joins 16 (drop at source) n (grind (arith,
 
 -- ---- the text of such bytes
 
--- the text after a byte of ASCII, and after a character of two bytes
-after_one : (a : ℕ) (text : List ℕ) → N.is_plain a ≡ true → IsUtf8 text × (doubled text ≡ text) → IsUtf8 (a ∷ text) × (doubled (a ∷ text) ≡ a ∷ text)
-after_one a text plain more = (N.IsUtf8-append (a ∷ []) text (N.Singles.one_utf8 a (grind arith)) more.0, grind arith)
+-- whole characters, none of them a quote
+abbrev IsUnquoted : List ℕ → Type 0
+IsUnquoted text = IsUtf8 text × (doubled text ≡ text)
 
-after_two : (a b : ℕ) (text : List ℕ) → is_lead a ≡ true → is_trail b ≡ true → IsUtf8 text × (doubled text ≡ text)
-    → IsUtf8 (a ∷ b ∷ text) × (doubled (a ∷ b ∷ text) ≡ a ∷ b ∷ text)
-after_two a b text lead trail more = (N.IsUtf8-append (a ∷ b ∷ []) text (grind (arith, N.Utf8Laws.two_bytes)) more.0, grind arith)
+after : (front text : List ℕ) → IsUnquoted front → IsUnquoted text → IsUnquoted (front ++ text)
+after front text first more = (N.IsUtf8-append front text first.0 more.0, rw (N.JoiningLemmas.doubled-append front text, first.1, more.1))
+
+after_one : (a : ℕ) (text : List ℕ) → N.is_plain a ≡ true → IsUnquoted text → IsUnquoted (a ∷ text)
+after_one a text plain = after (a ∷ []) text (N.Singles.one_utf8 a (grind arith), grind arith)
 
 -- whole bytes of it, the last of which begins no character of two bytes
 joined_text : (n : ℕ) (xs : List ℕ) → AreJoined n xs → is_trail (get_or xs 0 0) ≡ false → ((k : ℕ) → n ≡ suc k → is_lead (get_or xs k 0) ≡ false)
-    → IsUtf8 (take n xs) × (doubled (take n xs) ≡ take n xs)
+    → IsUnquoted (take n xs)
 unfolding AreJoined
 joined_text zero xs joined first last = grind arith
-joined_text (suc zero) (a ∷ b ∷ xs) joined first last = let other : is_lead a ≡ false = last 0 N.refl in
-    after_one a [] (grind arith) (N.IsUtf8-nil, N.refl)
+joined_text (suc zero) (a ∷ b ∷ xs) joined first last = let other = last 0 N.refl in after_one a [] (grind arith) (N.IsUtf8-nil, N.refl)
 joined_text (suc (suc n)) (a ∷ b ∷ d ∷ xs) joined first last = elim (cases_Bool (is_lead a)) [
-  | N.inl lead ↦ after_two a b (take n (d ∷ xs)) lead (grind arith) (joined_text n (d ∷ xs) joined.1.1 (grind arith) (λ k is. last (suc (suc k)) (omega arith)))
+  | N.inl lead ↦ after (a ∷ b ∷ []) (take n (d ∷ xs)) (grind (arith, N.Utf8Laws.two_bytes), grind arith)
+      (joined_text n (d ∷ xs) joined.1.1 (grind arith) (λ k is. last (suc (suc k)) (omega arith)))
   | N.inr other ↦ after_one a (take (suc n) (b ∷ d ∷ xs)) (grind arith)
       (joined_text (suc n) (b ∷ d ∷ xs) joined.1 (grind arith) (λ k is. last (suc k) (omega arith)))
 ]
@@ -58,26 +61,22 @@ lead_after n xs joined last = grind arith
 module _ (bytes source : List ℕ) (at : ℕ) (lies : N.LiesIn bytes source) (there : at + 16 < length source)
     (first : is_trail (get_or source at 0) ≡ false) (n : ℕ) (within : at + n ≤ length bytes) (few : n ≤ N.prefix_len is_joined (pairs_at at source)) where
   most : n ≤ 16
-  most = omega (arith, few, N.LaneMasks.pairs_most source at there is_joined)
+  most = omega (arith, few, N.LaneMasks.pairs_most source at there)
 
-  begins : is_trail (get_or (drop at source) 0 0) ≡ false
-  begins = grind (arith, N.get_or-drop)
-
-  text_of : (k : ℕ) → k ≤ n → ((j : ℕ) → k ≡ suc j → is_lead (get_or (drop at source) j 0) ≡ false)
-      → IsUtf8 (take k (drop at bytes)) × (doubled (take k (drop at bytes)) ≡ take k (drop at bytes))
+  text_of : (k : ℕ) → k ≤ n → ((j : ℕ) → k ≡ suc j → is_lead (get_or (drop at source) j 0) ≡ false) → AreUnquoted bytes at k
   text_of k less last =
-      rw (N.LaneMasks.front_alike bytes source at k 16 lies (omega (arith, most)) (omega arith), N.take-take k 16 (drop at source) (omega (arith, most)))
-      (joined_text k (drop at source) (grind (arith, joined_at)) begins last)
+      let text = joined_text k (drop at source) (grind (arith, joined_at)) (grind (arith, N.get_or-drop)) last in
+      let alike = N.LaneMasks.front_alike bytes source at k 16 lies (omega (arith, most)) (omega arith)
+      ∙ N.take-take k 16 (drop at source) (omega (arith, most)) in
+      record { within = omega arith; whole = rw alike text.0; unquoted = rw alike text.1 }
 
   last_at : (k : ℕ) → n ≡ suc k → get_or (drop at source) k 0 ≡ get_or source (at + n - 1) 0
   last_at = grind (arith, N.get_or-drop)
 
   -- the first bytes of a run up to one that begins no character of two bytes are text
-  pub run_text : (0 < n → is_lead (get_or source (at + n - 1) 0) ≡ false)
-      → IsUtf8 (take n (drop at bytes)) × (doubled (take n (drop at bytes)) ≡ take n (drop at bytes))
+  pub run_text : (0 < n → is_lead (get_or source (at + n - 1) 0) ≡ false) → AreUnquoted bytes at n
   run_text last = text_of n (omega arith) (grind (arith, last_at))
 
   -- so are those before one that does
-  pub run_text_before : 0 < n → is_lead (get_or source (at + n - 1) 0) ≡ true
-      → IsUtf8 (take (n - 1) (drop at bytes)) × (doubled (take (n - 1) (drop at bytes)) ≡ take (n - 1) (drop at bytes))
+  pub run_text_before : 0 < n → is_lead (get_or source (at + n - 1) 0) ≡ true → AreUnquoted bytes at (n - 1)
   run_text_before some last = text_of (n - 1) (omega arith) (grind (arith, lead_after, joined_at, last_at))

@@ -171,7 +171,7 @@ module _ (d : List ℕ) (at : ℕ) (room : at + 16 < length d) where
   pairs_fit fits = N.Each1-zip2 _ _ _ _ (N.Each2-of (Fits w8) (Fits w8) _ (λ a b x y. (x, y)) _ _
       (N.chunk-fits w8 at 16 d fits) (N.chunk-fits w8 (at + 1) 16 d fits))
 
-  pub pairs_most : (q : ℕ × ℕ → Bool) → N.prefix_len q (pairs_at at d) ≤ 16
+  pub pairs_most : N.prefix_len is_joined (pairs_at at d) ≤ 16
   pairs_most = grind (arith, N.prefix_len-le-length, pairs_long)
 
 -- ---- whether a lane is long or not of ASCII, by the bits of all

@@ -1,9 +1,9 @@
 -- Text in UTF-8 that is judged while it is converted, a run after the other.
 use Rattle.tds_text.proofs as N
-use N.{◌≡◌, ◌∙◌, ◌↔◌, ℕ, ◌+◌, ◌-◌, ◌*◌, ◌<◌, ◌≤◌, List, [], ◌∷◌, ◌++◌, IsUtf8, arith, doubled, drop, get_or, length, take}
+use N.{IsUtf8, List, arith, doubled, drop, get_or, length, take, ℕ, [], ◌*◌, ◌++◌, ◌+◌, ◌-◌, ◌<◌, ◌↔◌, ◌∙◌, ◌∷◌, ◌≡◌, ◌≤◌}
 use N.JoiningLemmas.{doubled-append, doubled_bytewise}
 use Rattle.tds_text.specs.Utf8.{Begins, rest, text}
-use Rattle.tds_text.specs.Utf8Scan.{Converts, ConvertsBegun, IsScan}
+use Rattle.tds_text.specs.Utf8Scan.{AreUnquoted, Converts, ConvertsBegun, IsScan}
 
 -- the next two bytes, and the next three
 pub two_there : (bytes : List ℕ) (at : ℕ) → at + 2 ≤ length bytes → take 2 (drop at bytes) ≡ get_or bytes at 0 ∷ get_or bytes (at + 1) 0 ∷ []
@@ -13,33 +13,29 @@ pub three_there : (bytes : List ℕ) (at : ℕ) → at + 3 ≤ length bytes
     → take 3 (drop at bytes) ≡ get_or bytes at 0 ∷ get_or bytes (at + 1) 0 ∷ get_or bytes (at + 2) 0 ∷ []
 three_there = grind (arith, N.drop_more)
 
--- a text after a text
-whole_after : (bytes : List ℕ) (at n : ℕ) → IsUtf8 (take at bytes) → IsUtf8 (take n (drop at bytes)) → IsUtf8 (take (at + n) bytes)
-whole_after bytes at n before whole = rw (N.take-add at n bytes) (N.IsUtf8-append (take at bytes) (take n (drop at bytes)) before whole)
-
-module _ (bytes : List ℕ) (at made : ℕ) {old new : List ℕ} (before : Converts bytes old at made) (end : ℕ) where
+module _ {bytes old new : List ℕ} {at made : ℕ} (before : Converts bytes old at made) where
   -- bytes that are text, and without quotes, were added
-  pub added : (n : ℕ) → end ≡ made + n → at + n ≤ length bytes → take end new ≡ take made old ++ take n (drop at bytes) → IsUtf8 (take n (drop at bytes))
-      → doubled (take n (drop at bytes)) ≡ take n (drop at bytes) → Converts bytes new (at + n) end
-  added n ends within written whole itself = record {
-    within = within;
+  pub added : {n : ℕ} → take (made + n) new ≡ take made old ++ take n (drop at bytes) → AreUnquoted bytes at n → Converts bytes new (at + n) (made + n)
+  added {n} written next = record {
+    within = next.within;
     room = grind arith;
-    whole = grind (arith, whole_after);
-    text = N.Singles.itself_taken doubled_bytewise bytes at n written itself before.text;
+    whole = rw (N.take-add at n bytes) (N.IsUtf8-append _ _ before.whole next.whole);
+    text = N.Singles.itself_taken doubled_bytewise bytes at n written next.unquoted before.text;
   }
 
   -- so were bytes of ASCII
-  pub added_plain : (n : ℕ) → end ≡ made + n → at + n ≤ length bytes → take end new ≡ take made old ++ take n (drop at bytes)
-      → N.ArePlain (take n (drop at bytes)) → Converts bytes new (at + n) end
-  added_plain = grind (arith, added, N.Singles.plain_utf8, N.Singles.plain_doubled)
+  pub added_plain : (n : ℕ) → at + n ≤ length bytes → take (made + n) new ≡ take made old ++ take n (drop at bytes)
+      → N.ArePlain (take n (drop at bytes)) → Converts bytes new (at + n) (made + n)
+  added_plain n within written plain =
+      added written (record { within = within; whole = N.Singles.plain_utf8 _ plain; unquoted = N.Singles.plain_doubled _ plain })
 
   -- a byte of ASCII was added, twice if it is a quote
-  pub added_one : at < length bytes → get_or bytes at 0 < 128 → end ≤ made + 2
+  pub added_one : {end : ℕ} → at < length bytes → get_or bytes at 0 < 128 → end ≤ made + 2
       → take end new ≡ take made old ++ doubled (get_or bytes at 0 ∷ []) → Converts bytes new (at + 1) end
   added_one within ascii most written = record {
     within = omega arith;
     room = grind arith;
-    whole = rw (N.take_more bytes at 0 within) (N.IsUtf8-append (take at bytes) (get_or bytes at 0 ∷ []) before.whole (N.Singles.one_utf8 _ ascii));
+    whole = rw (N.take_more bytes at 0 within) (N.IsUtf8-append _ _ before.whole (N.Singles.one_utf8 _ ascii));
     text = N.Singles.one_taken doubled_bytewise bytes at within written before.text;
   }
 

@@ -3,7 +3,7 @@ use N.beyond_ascii.put_triples.Goals as goal
 use N.WideText.{in_one_half}
 
 pub returns-then-n-le-HALF : goal.returns-then-n-le-HALF
-returns-then-n-le-HALF c = in_one_half c.args.units _ _ _ _ c.args.n c.fits-units.1 c.requires.long c.triples.ensures.0 (omega N.arith) c.put_lanes.ensures
+returns-then-n-le-HALF = grind (N.arith, in_one_half)
 
 pub returns : goal.returns
 returns c = N.WideText.in_two_halves c.args.units _ _ _ _ c.args.n c.fits-units.1 c.requires.long c.triples.ensures.0 _ _ (omega N.arith) (omega N.arith)

@@ -17,6 +17,6 @@ returns-then-to c =
     let all : n + (16 - n) ≡ 16 = omega N.arith in
     let few : 2 * n ≤ 32 = omega N.arith in
     let within : n ≤ N.length source = omega N.arith in
-    let digits : N.take (2 * n) new ≡ N.encode_lower (N.take n source) = N.sym (N.take-take (2 * n) 32 new few) ∙ N.ap (N.take (2 * n)) c.put_digits.ensures
-    ∙ N.ap (λ (k : ℕ). N.take (2 * n) (N.encode_lower (N.take k source))) (N.sym all) ∙ N.SingleLaws.hex-front n (16 - n) source within in
+    let digits : N.take (2 * n) new ≡ N.encode_lower (N.take n source) = N.sym (N.take-take (2 * n) 32 new few)
+    ∙ rw c.put_digits.ensures (rw all at (N.SingleLaws.hex-front n (16 - n) source within)) in
     grind (N.arith, N.common_steps, marked, N.take-append-add, N.take-append-le, digits)

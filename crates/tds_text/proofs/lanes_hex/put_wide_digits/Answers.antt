@@ -8,9 +8,7 @@ both_halves : (bytes first second third : N.List ℕ) (at : ℕ) → take (2 * a
 both_halves bytes first second third at one two =
     let half : 2 * at + 32 ≡ 2 * (at + 16) = omega N.arith in
     let all : 2 * (at + 16) + 32 ≡ 2 * at + 64 = omega N.arith in
-    rw all at two ∙ ap (λ l. l ++ N.encode_lower (chunk (at + 16) 16 bytes)) (rw half at one) ∙ N.append_assoc (take (2 * at) first) _ _
-    ∙ ap (λ l. take (2 * at) first ++ l) (N.sym (ap N.encode_lower
-    (rw (N.drop-drop 16 at bytes) at (N.take-add 16 16 (N.drop at bytes))) ∙ N.SingleLaws.hex-append N.lower_digits _ _))
+    rw all at two ∙ rw (← half, one, N.append_assoc, ← N.SingleLaws.hex-append N.lower_digits, N.WideText.two_chunks 16 16) N.refl
 
 pub returns : N.lanes_hex.put_wide_digits.Goals.returns
 returns = grind (N.arith, both_halves)

@@ -1,7 +1,7 @@
 use Rattle.tds_text.proofs as N
 use N.utf16.next_character.Goals as goal
 use N.{sym, arith}
-use N.Utf16Steps.{alone_at, held_at, lone_other, one_at, pair_at}
+use N.Utf16Steps.{alone_at, lone_other, one_at, pair_at}
 
 pub returns-then-bytes-at-lt2-clause-gives : goal.returns-then-bytes-at-lt2-clause-gives
 returns-then-bytes-at-lt2-clause-gives c = let left = N.length-drop c.args.at c.args.bytes.now in grind arith

@@ -5,6 +5,4 @@ pub returns-clause-most : goal.returns-clause-most
 returns-clause-most c = omega (N.arith, (N.Singles.upper_text _ c.requires.upper c.ranges.byte.fits c.upper-text.ensures).1)
 
 pub returns-clause-written : goal.returns-clause-written
-returns-clause-written c =
-    N.Singles.upper_put c.args.byte c.args.at c.args.to.now c.put_four.new.to c.requires.upper c.ranges.byte.fits c.upper-text.ensures (search N.arith)
-    c.put_four.ensures
+returns-clause-written = grind (N.arith, N.Singles.upper_put)
