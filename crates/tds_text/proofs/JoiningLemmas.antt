@@ -1,6 +1,6 @@
 -- Lemmas that the laws of each conversion share.
 use Rattle.tds_text.proofs as N
-use N.{Leads, List, [], ap, arith, drop, emit, length, take, ℕ, ◌++◌, ◌+◌, ◌-◌, ◌≡◌, ◌≤◌}
+use N.{Leads, List, arith, drop, emit, length, take, ℕ, [], ◌++◌, ◌+◌, ◌-◌, ◌≡◌, ◌≤◌}
 
 -- the quotes of two pieces are doubled in each
 pub doubled-append : (x y : List ℕ) → N.doubled (x ++ y) ≡ N.doubled x ++ N.doubled y
@@ -23,7 +23,7 @@ pub record HasFronts (rest text front : List ℕ → List ℕ) : Type 0 where
 
 module _ {rest text front : List ℕ → List ℕ} (fronts : HasFronts rest text front) where
   pub emit-front : (a : List ℕ) → emit rest text a ≡ text (front a)
-  emit-front a = ap text (settled_front rest a (front a) (fronts.whole a))
+  emit-front a = N.ap text (settled_front rest a (front a) (fronts.whole a))
 
   pub emits : (a b : List ℕ) → emit rest text (a ++ b) ≡ emit rest text a ++ emit rest text (rest a ++ b)
   emits a b = rw (emit-front (a ++ b), emit-front a, emit-front (rest a ++ b), fronts.front_is a b) (fronts.more a b)

@@ -1,18 +1,13 @@
 -- What the tables of places have.
 use Rattle.tds_text.proofs as N
-use N.{high_quad, low_quad, pair, Bool, Each1, Fits, List, [], ap, ap₂, arith, cond, drop, get_or, length, map, nat_eq, refl, suc, take, top, true, w16, w8}
-use N.{zero, ℕ, ◌%◌, ◌&&◌, ◌*◌, ◌++◌, ◌+◌, ◌/◌, ◌<◌, ◌^◌, ◌∙◌, ◌∷◌, ◌≡◌, ◌≤◌}
-use Rattle.std.proofs.lemmas.List.{get_or-append-add, get_or_append_left}
-use Rattle.std.proofs.lemmas.Nat.{ones-le, ones_cat}
-use Rattle.std.specs.Prelude.{count_ones, flat_map}
-use Rattle.std.specs.Simd.Lanes.{number_l}
+use N.{Bool, Each1, Fits, List, ap, ap₂, arith, cond, digits_l, drop, flat_map, get_or, high_quad, length, low_quad, map, number_l, refl, sel_l, suc, take}
+use N.{true, w16, zero, zip2, ℕ, [], ◌%◌, ◌&&◌, ◌*◌, ◌++◌, ◌+◌, ◌/◌, ◌<◌, ◌^◌, ◌∙◌, ◌∷◌, ◌≡◌, ◌≤◌}
 use Rattle.tds_text.specs.Utf16.{units}
-use lib.Lanes.{Each2, digits_l, zip2}
 
 -- ---- bytes that are gathered from lanes by the places of a table
 
 -- lanes at places
-pub looked_up : (xs : List ℕ) (i : ℕ) (js : List ℕ) → i + length js ≤ 16 → Each1 (λ j. j < 16) js → N.swz_l w8 16 xs i js ≡ map (λ j. get_or xs j 0) js
+pub looked_up : (xs : List ℕ) (i : ℕ) (js : List ℕ) → i + length js ≤ 16 → Each1 (λ j. j < 16) js → N.swz_l N.w8 16 xs i js ≡ map (λ j. get_or xs j 0) js
 looked_up xs i [] few small = refl
 looked_up xs i (j ∷ js) few small = grind (arith, looked_up xs (suc i) js (omega arith) small.1)
 
@@ -25,7 +20,7 @@ placed width at (ks ∷ kss) = map (λ k. at + k) ks ++ placed width (at + width
 one_lane : (front lane more ks : List ℕ) → Each1 (λ k. k < length lane) ks
     → map (λ j. get_or (front ++ (lane ++ more)) j 0) (map (λ k. length front + k) ks) ≡ map (λ k. get_or lane k 0) ks
 one_lane front lane more [] each = refl
-one_lane front lane more (k ∷ ks) each = ap₂ (λ x xs. x ∷ xs) (grind (arith, get_or-append-add, get_or_append_left)) (one_lane front lane more ks each.1)
+one_lane front lane more (k ∷ ks) each = ap₂ (λ x xs. x ∷ xs) (grind (arith, N.get_or-append-add, N.get_or_append_left)) (one_lane front lane more ks each.1)
 
 module _ (size : ℕ) (lane places : ℕ → List ℕ) (wide : (u : ℕ) → length (lane u) ≡ size) (inside : (u : ℕ) → Each1 (λ k. k < length (lane u)) (places u)) where
   -- the bytes of lanes after others
@@ -52,9 +47,9 @@ same_texts same (u ∷ us) each = ap₂ (λ xs ys. xs ++ ys) (same u each.0) (sa
 -- the bits of a mask
 abbrev pub bits : ℕ → ℕ → List Bool
 bits zero mask = []
-bits (suc n) mask = nat_eq (mask % 2) 1 ∷ bits n (mask / 2)
+bits (suc n) mask = N.nat_eq (mask % 2) 1 ∷ bits n (mask / 2)
 
-lowest_bit : (b : Bool) (n : ℕ) → (nat_eq ((cond b 1 0 + 2 * n) % 2) 1 ≡ b) × ((cond b 1 0 + 2 * n) / 2 ≡ n)
+lowest_bit : (b : Bool) (n : ℕ) → (N.nat_eq ((cond b 1 0 + 2 * n) % 2) 1 ≡ b) × ((cond b 1 0 + 2 * n) / 2 ≡ n)
 lowest_bit = grind arith
 
 -- a row for two masks of some lanes begins with the places of these lanes
@@ -92,7 +87,7 @@ pub record IsRow (row begins : List ℕ) : Type 0 where
 
 -- its test
 abbrev is_row : List ℕ → List ℕ → Bool
-is_row row begins = (nat_eq (length row) 16 && all_below 16 row) && N.bytes_eq row (begins ++ drop (length begins) row)
+is_row row begins = (N.nat_eq (length row) 16 && all_below 16 row) && N.bytes_eq row (begins ++ drop (length begins) row)
 
 tested : (row begins : List ℕ) → is_row row begins ≡ true → IsRow row begins
 tested row begins h = grind (arith, N.and_parts, each_below, N.bytes_eq-Decides)
@@ -114,32 +109,32 @@ quad_row wide long small small' =
     rw (low, high) at (quad_at (wide + 16 * long) (omega arith))
 
 -- how many bits are set in two masks of four
-pub ones_of_two : (wide long : ℕ) → wide < 16 → long < 16 → (count_ones (wide + 16 * long) ≡ count_ones wide + count_ones long)
-    × (count_ones (wide + 16 * long) ≤ 8)
+pub ones_of_two : (wide long : ℕ) → wide < 16 → long < 16 → (N.count_ones (wide + 16 * long) ≡ N.count_ones wide + N.count_ones long)
+    × (N.count_ones (wide + 16 * long) ≤ 8)
 ones_of_two wide long small small' =
     let index : wide + 16 * long ≡ long * 2 ^ 4 + wide = omega arith in
-    (rw (index, ones_cat 4 long wide small) (omega arith), ones-le 8 (wide + 16 * long) (omega arith))
+    (rw (index, N.ones_cat 4 long wide small) (omega arith), N.ones-le 8 (wide + 16 * long) (omega arith))
 
 -- ---- units that are looked at eight at a time, lane by lane
 
 -- lanes that are chosen one by one
-chosen_maps : (m : ℕ → Bool) (f g : ℕ → ℕ) (us : List ℕ) → N.sel_l (map m us) (map f us) (map g us) ≡ map (λ u. cond (m u) (f u) (g u)) us
+chosen_maps : (m : ℕ → Bool) (f g : ℕ → ℕ) (us : List ℕ) → sel_l (map m us) (map f us) (map g us) ≡ map (λ u. cond (m u) (f u) (g u)) us
 chosen_maps m f g [] = refl
 chosen_maps m f g (u ∷ us) = ap (λ xs. cond (m u) (f u) (g u) ∷ xs) (chosen_maps m f g us)
 
-pub picked_self : (m : ℕ → Bool) (f : ℕ → ℕ) (us : List ℕ) → N.sel_l (map m us) (map f us) us ≡ map (λ u. cond (m u) (f u) u) us
-picked_self m f us = ap (N.sel_l (map m us) (map f us)) (N.sym (N.map-id us)) ∙ chosen_maps m f (λ u. u) us
+pub picked_self : (m : ℕ → Bool) (f : ℕ → ℕ) (us : List ℕ) → sel_l (map m us) (map f us) us ≡ map (λ u. cond (m u) (f u) u) us
+picked_self m f us = ap (sel_l (map m us) (map f us)) (N.sym (N.map-id us)) ∙ chosen_maps m f (λ u. u) us
 
 pub picked : (m : ℕ → Bool) (g : ℕ → ℕ) (us : List ℕ) (n y : ℕ) → length us ≡ n
-    → N.sel_l (map m us) (N.replicate n y) (map g us) ≡ map (λ u. cond (m u) y (g u)) us
+    → sel_l (map m us) (N.replicate n y) (map g us) ≡ map (λ u. cond (m u) y (g u)) us
 picked m g us n y long = rw (N.splat_is_map us n y long) (chosen_maps m (λ _. y) g us)
 
 pub picked_number : (m : ℕ → Bool) (us : List ℕ) (n y z : ℕ) → length us ≡ n
-    → N.sel_l (map m us) (N.replicate n y) (N.replicate n z) ≡ map (λ u. cond (m u) y z) us
+    → sel_l (map m us) (N.replicate n y) (N.replicate n z) ≡ map (λ u. cond (m u) y z) us
 picked_number m us n y z long = rw (N.splat_is_map us n y long, N.splat_is_map us n z long) (chosen_maps m (λ _. y) (λ _. z) us)
 
 -- two bytes are a lane
-pub units_of_bytes : (n : ℕ) (xs : List ℕ) → length xs ≡ 2 * n → Each1 (Fits w8) xs → digits_l 65536 n (number_l 256 xs) ≡ units xs
+pub units_of_bytes : (n : ℕ) (xs : List ℕ) → length xs ≡ 2 * n → Each1 (Fits N.w8) xs → digits_l 65536 n (number_l 256 xs) ≡ units xs
 units_of_bytes zero [] long fits = refl
 units_of_bytes (suc n) (low ∷ high ∷ xs) long fits = let more = units_of_bytes n xs (omega arith) fits.1.1 in
     grind arith
@@ -162,9 +157,9 @@ lane_bytes f (suc n) (u ∷ us) long fits =
 lane_bytes f n us long fits = grind arith
 
 -- the bytes of eight pairs
-pub pair_lanes : (us : List ℕ) {z : List ℕ} → length us ≡ 8 → Each1 (Fits w16) us → z ≡ map pair us
+pub pair_lanes : (us : List ℕ) {z : List ℕ} → length us ≡ 8 → Each1 (Fits w16) us → z ≡ map N.pair us
     → digits_l 256 16 (number_l 65536 z) ≡ flat_map N.pair_bytes us
-pair_lanes us long fits is = rw is (lane_bytes pair 8 us long (N.Each1-weaker _ _ (grind arith) us fits))
+pair_lanes us long fits is = rw is (lane_bytes N.pair 8 us long (N.Each1-weaker _ _ (grind arith) us fits))
 
 -- of each four bytes the first, the third and the fourth, and then the second
 abbrev pub woven : List ℕ → List ℕ
@@ -215,5 +210,5 @@ quad_lanes (a ∷ b ∷ c ∷ d ∷ e ∷ f ∷ g ∷ h ∷ []) ls hs long (fa, 
 quad_lanes us ls hs long fits is_low is_high = grind arith
 
 -- what holds of one number holds of eight lanes of it
-pub asks_all : (R : ℕ → ℕ → Type 0) (us : List ℕ) (k : ℕ) → ((x : ℕ) → R x k) → Each2 R us (N.replicate 8 k)
+pub asks_all : (R : ℕ → ℕ → Type 0) (us : List ℕ) (k : ℕ) → ((x : ℕ) → R x k) → N.Each2 R us (N.replicate 8 k)
 asks_all R us k h = N.Each2-splat R us 8 k (N.Each1-all _ h us)

@@ -1,9 +1,9 @@
 -- The text of data that is still open, by the name of its conversion.
 use Rattle.tds_text.proofs as N
+use N.{List, arith, emit, length, refl, ℕ, [], ◌%◌, ◌++◌, ◌+◌, ◌-◌, ◌∷◌, ◌≡◌, ◌≤◌}
+use N.JoiningLemmas.{emit-front}
 use N.Utf16Laws as utf16_laws
 use N.Utf8Laws as utf8_laws
-use N.{◌≡◌, ℕ, ◌+◌, ◌-◌, ◌≤◌, ◌%◌, List, [], ◌∷◌, ◌++◌, length, refl, arith, emit, Conversion}
-use N.ConversionLaws.{fit_by_test, joins_by_name}
 use Rattle.tds_text.specs.Utf8 as utf8
 
 -- the bad byte is after what is withheld
@@ -15,13 +15,13 @@ after_kept kept piece bytes k is begun bad = elim (N.cases_lt k (length kept)) [
 ]
 
 -- The first bytes of the piece, so many, may follow the old ones, and the text that is fixed then is that which the whole piece fixes.
-pub record BegunFront (c : Conversion) (old piece : List ℕ) : Type 0 where
+pub record BegunFront (c : N.Conversion) (old piece : List ℕ) : Type 0 where
   pub taken : ℕ
   pub within : taken ≤ length piece
   pub begun : N.BeginsData c (old ++ N.take taken piece)
   pub same : emit (N.conversion_rest c) (N.conversion_text c) (old ++ N.take taken piece) ≡ emit (N.conversion_rest c) (N.conversion_text c) (old ++ piece)
 
-all_begun : (c : Conversion) (old piece : List ℕ) → N.BeginsData c (old ++ piece) → BegunFront c old piece
+all_begun : (c : N.Conversion) (old piece : List ℕ) → N.BeginsData c (old ++ piece) → BegunFront c old piece
 all_begun = grind (arith, N.take_all)
 
 -- a byte of the piece is bad
@@ -36,7 +36,7 @@ utf8_front old piece N.None is begins = all_begun N.Utf8Text old piece (N.Utf8La
 utf8_front old piece (N.Some k) is begins = stopped_front old piece begins (N.Utf8Laws.stops_at (old ++ piece) _ k _ refl is refl)
 
 -- after data that begins, the first bytes of any piece begin too and fix all the text that the piece fixes
-pub begun_front : (c : Conversion) (old piece : List ℕ) → N.BeginsData c old → BegunFront c old piece
+pub begun_front : (c : N.Conversion) (old piece : List ℕ) → N.BeginsData c old → BegunFront c old piece
 begun_front = grind (arith, utf8_front, N.take_all)
 
 -- an odd byte completes no unit
@@ -61,23 +61,24 @@ unfit_front d x unfit =
     ])) same
 
 -- a byte after which the data isn't whole adds no text
-pub unfit_adds_none : (c : Conversion) (d : List ℕ) (x : ℕ) → N.is_fit c (d ++ x ∷ []) ≡ N.false
+pub unfit_adds_none : (c : N.Conversion) (d : List ℕ) (x : ℕ) → N.is_fit c (d ++ x ∷ []) ≡ N.false
     → emit (N.conversion_rest c) (N.conversion_text c) (d ++ x ∷ []) ≡ emit (N.conversion_rest c) (N.conversion_text c) d
 unfit_adds_none N.HexDigits d x unfit = cc
 unfit_adds_none N.Utf16Text d x unfit =
     let same = odd_front d x (grind arith) in
-    rw (N.JoiningLemmas.emit-front utf16_laws.fronts, N.JoiningLemmas.emit-front utf16_laws.fronts, same) refl
+    rw (emit-front utf16_laws.fronts, emit-front utf16_laws.fronts, same)
 unfit_adds_none N.Windows1252Text d x unfit = cc
 unfit_adds_none N.Utf8Text d x unfit =
     let same = unfit_front d x (grind (arith, N.is_utf8-from_IsUtf8)) in
-    rw (N.JoiningLemmas.emit-front utf8_laws.fronts, N.JoiningLemmas.emit-front utf8_laws.fronts, same) refl
+    rw (emit-front utf8_laws.fronts, emit-front utf8_laws.fronts, same)
 
 -- a piece grows the open field by the text of what was withheld and the piece
-pub open_grows : (c : Conversion) (d e : List ℕ) → N.BeginsData c (d ++ e)
+pub open_grows : (c : N.Conversion) (d e : List ℕ) → N.BeginsData c (d ++ e)
     → N.open_field c d ++ emit (N.conversion_rest c) (N.conversion_text c) (N.conversion_rest c d ++ e) ≡ N.open_field c (d ++ e)
-open_grows c d e begins = let next = (joins_by_name c).emits d e begins in grind arith
+open_grows c d e begins = let next = (N.ConversionLaws.joins_by_name c).emits d e begins in grind arith
 
 -- the open field of whole data, the text of what was withheld and what closes the field are the field
-pub open_closes : (c : Conversion) (d : List ℕ) → N.is_fit c d ≡ N.true
+pub open_closes : (c : N.Conversion) (d : List ℕ) → N.is_fit c d ≡ N.true
     → N.open_field c d ++ (N.conversion_text c (N.conversion_rest c d) ++ N.closing (N.is_quoted c)) ≡ N.long_field c d
-open_closes c d fit = let whole = (joins_by_name c).ends d ((fit_by_test c d).0 fit) in grind (arith, N.append_assoc, N.append-nil)
+open_closes c d fit = let whole = (N.ConversionLaws.joins_by_name c).ends d ((N.ConversionLaws.fit_by_test c d).0 fit) in grind
+    (arith, N.append_assoc, N.append-nil)

@@ -1,12 +1,12 @@
 -- The laws of the conversions in which each byte stands alone.
 use Rattle.tds_text.proofs as N
-use N.{◌≡◌, ◌∙◌, ℕ, ◌/◌, ◌%◌, ◌*◌, ◌+◌, ◌-◌, ◌≤◌, List, [], ◌∷◌, ◌++◌, length, refl, ⊤}
+use N.{List, arith, length, refl, take, ℕ, [], ⊤, ◌%◌, ◌*◌, ◌++◌, ◌+◌, ◌-◌, ◌/◌, ◌∙◌, ◌∷◌, ◌≡◌, ◌≤◌}
 use Rattle.tds_text.specs.Binary as binary
 use Rattle.tds_text.specs.Windows1252 as windows_1252
 use Rattle.hex.specs.Hex.{encode_with}
 
 joins_single : {text : List ℕ → List ℕ} → N.IsBytewise text → N.JoinsPieces (λ _. ⊤) (λ _. ⊤) (λ _. []) text
-joins_single = grind (N.arith, N.append-nil, N.take_all)
+joins_single = grind (arith, N.append-nil, N.take_all)
 
 -- the digits of two pieces
 pub hex-append : (t x y : List ℕ) → encode_with t (x ++ y) ≡ encode_with t x ++ encode_with t y
@@ -26,21 +26,21 @@ hex_bytewise = record { appends = hex-append N.lower_digits; empty = hex-nil }
 hex-length : (t xs : List ℕ) → length (encode_with t xs) ≡ 2 * length xs
 unfolding encode_with
 hex-length t [] = refl
-hex-length t (b ∷ xs) = omega (N.arith, hex-length t xs)
+hex-length t (b ∷ xs) = omega (arith, hex-length t xs)
 
 -- the digits of the first bytes come first
-pub hex-front : (n m : ℕ) (xs : List ℕ) → n ≤ length xs → N.take (2 * n) (N.encode_lower (N.take (n + m) xs)) ≡ N.encode_lower (N.take n xs)
+pub hex-front : (n m : ℕ) (xs : List ℕ) → n ≤ length xs → take (2 * n) (N.encode_lower (take (n + m) xs)) ≡ N.encode_lower (take n xs)
 hex-front n m xs within = rw (N.take-add n m xs, hex-append N.lower_digits)
-    (N.take_at _ _ (2 * n) (omega (N.arith, hex-length N.lower_digits (N.take n xs), N.length-take-le n xs within)))
+    (N.take_at _ _ (2 * n) (omega (arith, hex-length N.lower_digits (take n xs), N.length-take-le n xs within)))
 
 -- the digits of bytes come first among those of bytes that begin with them
 pub hex_padded : (bytes source written more : List ℕ) (m : ℕ) → N.LiesIn bytes source → length bytes ≤ m → m ≤ length source
-    → written ≡ N.encode_lower (N.take m source) → N.take (2 * length bytes) (written ++ more) ≡ N.encode_lower bytes
+    → written ≡ N.encode_lower (take m source) → take (2 * length bytes) (written ++ more) ≡ N.encode_lower bytes
 hex_padded bytes source written more m lies most within is =
     let n = length bytes in
-    let split : m ≡ n + (m - n) = omega N.arith in
-    let size = hex-length N.lower_digits (N.take m source) in
-    N.take-append-le (2 * n) written more (omega (N.arith, N.ap length is, size, N.length-take-le m source within))
+    let split : m ≡ n + (m - n) = omega arith in
+    let size = hex-length N.lower_digits (take m source) in
+    N.take-append-le (2 * n) written more (omega (arith, N.ap length is, size, N.length-take-le m source within))
     ∙ rw (is, split) (hex-front n (m - n) source lies.within ∙ N.ap N.encode_lower lies.front)
 
 -- bytes as hexadecimal digits may come in pieces
@@ -49,7 +49,7 @@ joins_binary = joins_single hex_bytewise
 
 -- the text of two pieces
 pub windows_1252-append : (x y : List ℕ) → windows_1252.text (x ++ y) ≡ windows_1252.text x ++ windows_1252.text y
-windows_1252-append = grind (N.arith, N.map-append, N.encodes-append, N.JoiningLemmas.doubled-append)
+windows_1252-append = grind (arith, N.map-append, N.encodes-append, N.JoiningLemmas.doubled-append)
 
 pub windows_1252_bytewise : N.IsBytewise windows_1252.text
 windows_1252_bytewise = record { appends = windows_1252-append; empty = refl }

@@ -1,7 +1,6 @@
 -- Text in UTF-8 that is judged while it is converted, a run after the other.
 use Rattle.tds_text.proofs as N
-use N.{IsUtf8, List, arith, doubled, drop, get_or, length, take, ℕ, [], ◌*◌, ◌++◌, ◌+◌, ◌-◌, ◌<◌, ◌↔◌, ◌∙◌, ◌∷◌, ◌≡◌, ◌≤◌}
-use N.JoiningLemmas.{doubled-append, doubled_bytewise}
+use N.{List, arith, drop, get_or, length, sym, take, ℕ, [], ◌*◌, ◌++◌, ◌+◌, ◌-◌, ◌<◌, ◌↔◌, ◌∙◌, ◌∷◌, ◌≡◌, ◌≤◌}
 use Rattle.tds_text.specs.Utf8.{Begins, rest, text}
 use Rattle.tds_text.specs.Utf8Scan.{AreUnquoted, Converts, ConvertsBegun, IsScan}
 
@@ -20,7 +19,7 @@ module _ {bytes old new : List ℕ} {at made : ℕ} (before : Converts bytes old
     within = next.within;
     room = grind arith;
     whole = rw (N.take-add at n bytes) (N.IsUtf8-append _ _ before.whole next.whole);
-    text = N.Singles.itself_taken doubled_bytewise bytes at n written next.unquoted before.text;
+    text = N.Singles.itself_taken N.JoiningLemmas.doubled_bytewise bytes at n written next.unquoted before.text;
   }
 
   -- so were bytes of ASCII
@@ -31,17 +30,17 @@ module _ {bytes old new : List ℕ} {at made : ℕ} (before : Converts bytes old
 
   -- a byte of ASCII was added, twice if it is a quote
   pub added_one : {end : ℕ} → at < length bytes → get_or bytes at 0 < 128 → end ≤ made + 2
-      → take end new ≡ take made old ++ doubled (get_or bytes at 0 ∷ []) → Converts bytes new (at + 1) end
+      → take end new ≡ take made old ++ N.doubled (get_or bytes at 0 ∷ []) → Converts bytes new (at + 1) end
   added_one within ascii most written = record {
     within = omega arith;
     room = grind arith;
     whole = rw (N.take_more bytes at 0 within) (N.IsUtf8-append _ _ before.whole (N.Singles.one_utf8 _ ascii));
-    text = N.Singles.one_taken doubled_bytewise bytes at within written before.text;
+    text = N.Singles.one_taken N.JoiningLemmas.doubled_bytewise bytes at within written before.text;
   }
 
 -- ---- what follows whole characters
 
-module _ (a b : List ℕ) (whole : IsUtf8 a) where
+module _ (a b : List ℕ) (whole : N.IsUtf8 a) where
   none_left : rest a ≡ []
   none_left = grind (arith, N.utf8_valid_len-IsUtf8, N.drop_of_length-le)
 
@@ -76,14 +75,14 @@ module _ {bytes to : List ℕ} (used made : ℕ) (x : Converts bytes to used mad
   begun_none scan less begun =
       let stops = scan.stops less in
       let tail = drop used bytes in
-      let inside : Begins tail = (whole_begins (take used bytes) tail x.whole).0 (rw (N.sym (N.take-append-drop used bytes)) at begun) in
+      let inside : Begins tail = (whole_begins (take used bytes) tail x.whole).0 (rw (sym (N.take-append-drop used bytes)) at begun) in
       stops.bad (N.Utf8Laws.joins_utf8.front (take (good + 1) tail) (drop (good + 1) tail) (rw N.take-append-drop inside))
 
   -- what follows was converted too
   pub begun_more : {new : List ℕ} {more : ℕ} → IsScan (drop used bytes) whole good
-      → N.emit rest text (drop used bytes) ≡ doubled (take whole (drop used bytes)) → length (drop used bytes) ≤ good
+      → N.emit rest text (drop used bytes) ≡ N.doubled (take whole (drop used bytes)) → length (drop used bytes) ≤ good
       → more ≤ 2 * whole
-      → take (made + more) new ≡ take made to ++ doubled (take whole (drop used bytes)) → ConvertsBegun bytes new (used + whole) (made + more)
+      → take (made + more) new ≡ take made to ++ N.doubled (take whole (drop used bytes)) → ConvertsBegun bytes new (used + whole) (made + more)
   begun_more {more = more} scan emits all most written =
       let tail = drop used bytes in
       let split = N.take-append-drop used bytes in
@@ -93,6 +92,6 @@ module _ {bytes to : List ℕ} (used made : ℕ) (x : Converts bytes to used mad
         within = omega (arith, scan.order, scan.most, x.within);
         left = omega (arith, scan.short, x.within);
         short = omega (arith, x.room, scan.order, scan.most, x.within);
-        text = rw (written, x.text, ← emits) (rw split at (N.sym (whole_emits (take used bytes) tail x.whole)));
-        keeps = rw (← N.drop-drop whole used bytes, scan.rest) (rw split at (N.sym (whole_keeps (take used bytes) tail x.whole)));
+        text = rw (written, x.text, ← emits) (rw split at (sym (whole_emits (take used bytes) tail x.whole)));
+        keeps = rw (← N.drop-drop whole used bytes, scan.rest) (rw split at (sym (whole_keeps (take used bytes) tail x.whole)));
       }

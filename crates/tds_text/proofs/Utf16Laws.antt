@@ -1,6 +1,6 @@
 -- The laws of UTF-16 in pieces.
 use Rattle.tds_text.proofs as N
-use N.{◌≡◌, ℕ, ◌%◌, ◌≤◌, ◌&&◌, false, List, [], ◌∷◌, ◌++◌, length, ap, ◌∙◌, arith, ⊤, emit, doubled}
+use N.{List, arith, false, length, ℕ, [], ⊤, ◌%◌, ◌&&◌, ◌++◌, ◌∙◌, ◌∷◌, ◌≡◌, ◌≤◌}
 use Rattle.tds_text.specs.Utf16.{units, is_high, IsFit, text, rest}
 use Rattle.std.specs.Char.Utf16.{utf16_chars}
 
@@ -71,12 +71,12 @@ Apart-front (low ∷ high ∷ odd ∷ []) vs f = grind arith
 Apart-front (low ∷ high ∷ low' ∷ high' ∷ bytes) vs f = grind (arith, Apart-front (low' ∷ high' ∷ bytes) vs f)
 
 -- the text of units is that of both parts where no pair lies across
-texts : (us vs : List ℕ) → Apart us vs → doubled (N.encode_utf8_all (N.utf16_lossy_chars (us ++ vs))) ≡ doubled (N.encode_utf8_all (N.utf16_lossy_chars us))
-    ++ doubled (N.encode_utf8_all (N.utf16_lossy_chars vs))
+texts : (us vs : List ℕ) → Apart us vs → N.doubled (N.encode_utf8_all (N.utf16_lossy_chars (us ++ vs))) ≡ N.doubled (N.encode_utf8_all (N.utf16_lossy_chars us))
+    ++ N.doubled (N.encode_utf8_all (N.utf16_lossy_chars vs))
 texts = grind (arith, chars-apart, N.map-append, N.encodes-append, N.JoiningLemmas.doubled-append)
 
 text-front : (a b : List ℕ) → Apart (units (front a)) (units b) → text (front a ++ b) ≡ text (front a) ++ text b
-text-front a b h = ap (λ us. doubled (N.encode_utf8_all (N.utf16_lossy_chars us))) (seam a b).units_are ∙ texts (units (front a)) (units b) h
+text-front a b h = N.ap (λ us. N.doubled (N.encode_utf8_all (N.utf16_lossy_chars us))) (seam a b).units_are ∙ texts (units (front a)) (units b) h
 
 pub fronts : N.JoiningLemmas.HasFronts rest text front
 unfolding starts_low
@@ -92,7 +92,7 @@ short a = (seam a []).few
 
 -- bytes are whole units just where their rest is
 parts : (bytes : List ℕ) → length bytes % 2 ≡ length (rest bytes) % 2
-parts bytes = let whole = (seam bytes []).even in omega (arith, ap length (seam bytes []).whole, N.length-append (front bytes) (rest bytes))
+parts bytes = let whole = (seam bytes []).even in omega (arith, N.ap length (seam bytes []).whole, N.length-append (front bytes) (rest bytes))
 
 -- text in UTF-16 may come in pieces
 pub joins_utf16 : N.JoinsPieces IsFit (λ _. ⊤) rest text

@@ -1,32 +1,30 @@
 -- One character after the other of text in UTF-16.
 use Rattle.tds_text.proofs as N
-use N.{seam, List, [], ap, arith, drop, emit, false, get_or, is_low_surrogate, length, refl, take, true, unwrap_or, ℕ, ◌%◌, ◌&&◌, ◌*◌, ◌++◌, ◌+◌, ◌-◌, ◌<◌}
-use N.{◌||◌, ◌∙◌, ◌∷◌, ◌≡◌, ◌≤◌, ◌⊎◌}
-use N.JoiningLemmas.{doubled-append, emit-front, Leads-none, Leads-seam, emit_held}
-use N.Utf16Laws.{front, fronts, front_step, joins_utf16, rest_step, short, starts_low}
+use N.{IsNext, Leads, List, arith, drop, emit, false, get_or, length, seam, take, true, unwrap_or, ℕ, [], ◌%◌, ◌&&◌, ◌*◌, ◌++◌, ◌+◌, ◌-◌, ◌<◌, ◌||◌, ◌∙◌, ◌∷◌}
+use N.{◌≡◌, ◌≤◌, ◌⊎◌}
+use N.Utf16Laws.{front, front_step, fronts, joins_utf16, short, starts_low}
 use Rattle.std.specs.Char.Utf16.{utf16_chars}
 use Rattle.tds_text.specs.Utf16.{characters, is_high, rest, text, units}
-use Rattle.tds_text.specs.Utf16Next.{IsNext}
 
 pub text_nil : text [] ≡ []
 unfolding utf16_chars
-text_nil = refl
+text_nil = N.refl
 
 pub characters_nil : characters [] ≡ []
 unfolding utf16_chars
-characters_nil = refl
+characters_nil = N.refl
 
 -- a unit that isn't the first of a pair
 chars_one : (u : ℕ) (us : List ℕ) → (N.is_high_surrogate u && starts_low us) ≡ false
     → N.utf16_lossy_chars (u ∷ us) ≡ unwrap_or (N.lone_unit_char u) 0xFFFD ∷ N.utf16_lossy_chars us
 unfolding utf16_chars
-chars_one u us h = ap (N.map (λ o. unwrap_or o 0xFFFD)) (N.Utf16Laws.chars-apart (u ∷ []) us h)
+chars_one u us h = N.ap (N.map (λ o. unwrap_or o 0xFFFD)) (N.Utf16Laws.chars-apart (u ∷ []) us h)
 
 spells_one : (low high : ℕ) (bytes : List ℕ) (code : ℕ) → unwrap_or (N.lone_unit_char (low + 256 * high)) 0xFFFD ≡ code
     → (is_high low high ≡ true → starts_low (units bytes) ≡ false) → characters (low ∷ high ∷ bytes) ≡ N.encode_utf8 code ++ characters bytes
 spells_one = grind (arith, chars_one)
 
-spells_pair : (low high low' high' : ℕ) (bytes : List ℕ) → is_high low high ≡ true → is_low_surrogate (low' + 256 * high') ≡ true
+spells_pair : (low high low' high' : ℕ) (bytes : List ℕ) → is_high low high ≡ true → N.is_low_surrogate (low' + 256 * high') ≡ true
     → characters (low ∷ high ∷ low' ∷ high' ∷ bytes) ≡ N.encode_utf8 (N.surrogate_pair_char (low + 256 * high) (low' + 256 * high')) ++ characters bytes
 unfolding utf16_chars
 spells_pair = grind arith
@@ -34,7 +32,7 @@ spells_pair = grind arith
 -- the text of a front, from its characters
 emits_by : (bytes more : List ℕ) (code : ℕ) → characters (front bytes) ≡ N.encode_utf8 code ++ characters (front more)
     → emit rest text bytes ≡ N.doubled (N.encode_utf8 code) ++ emit rest text more
-emits_by = grind (arith, emit-front fronts, doubled-append)
+emits_by = grind (arith, N.JoiningLemmas.emit-front fronts, N.JoiningLemmas.doubled-append)
 
 -- a unit that is no high surrogate
 pub next_one : (low high : ℕ) (bytes : List ℕ) (code : ℕ) → is_high low high ≡ false → unwrap_or (N.lone_unit_char (low + 256 * high)) 0xFFFD ≡ code
@@ -45,26 +43,26 @@ next_one low high bytes code h e = record {
   spells = grind (arith, spells_one);
 }
 
-pub lone_other : (u : ℕ) → N.is_high_surrogate u ≡ false → is_low_surrogate u ≡ false → unwrap_or (N.lone_unit_char u) 0xFFFD ≡ u
+pub lone_other : (u : ℕ) → N.is_high_surrogate u ≡ false → N.is_low_surrogate u ≡ false → unwrap_or (N.lone_unit_char u) 0xFFFD ≡ u
 lone_other = grind arith
 
-pub lone_half : (u : ℕ) → (N.is_high_surrogate u ≡ true) ⊎ (is_low_surrogate u ≡ true) → unwrap_or (N.lone_unit_char u) 0xFFFD ≡ 0xFFFD
+pub lone_half : (u : ℕ) → (N.is_high_surrogate u ≡ true) ⊎ (N.is_low_surrogate u ≡ true) → unwrap_or (N.lone_unit_char u) 0xFFFD ≡ 0xFFFD
 lone_half = grind arith
 
 -- a high surrogate before a unit that is no low one
-next_alone : (low high low' high' : ℕ) (bytes : List ℕ) → is_high low high ≡ true → is_low_surrogate (low' + 256 * high') ≡ false
+next_alone : (low high low' high' : ℕ) (bytes : List ℕ) → is_high low high ≡ true → N.is_low_surrogate (low' + 256 * high') ≡ false
     → IsNext (low ∷ high ∷ low' ∷ high' ∷ bytes) 0xFFFD 2
 unfolding starts_low
 next_alone low high low' high' bytes h l =
     let lone = lone_half (low + 256 * high) (N.inl h) in
     record {
       emits = emits_by (low ∷ high ∷ low' ∷ high' ∷ bytes) (low' ∷ high' ∷ bytes) 0xFFFD (grind (arith, spells_one, front));
-      keeps = refl;
+      keeps = N.refl;
       spells = spells_one low high (low' ∷ high' ∷ bytes) 0xFFFD lone (λ _. l);
     }
 
 -- a pair
-next_pair : (low high low' high' : ℕ) (bytes : List ℕ) → is_high low high ≡ true → is_low_surrogate (low' + 256 * high') ≡ true
+next_pair : (low high low' high' : ℕ) (bytes : List ℕ) → is_high low high ≡ true → N.is_low_surrogate (low' + 256 * high') ≡ true
     → IsNext (low ∷ high ∷ low' ∷ high' ∷ bytes) (N.surrogate_pair_char (low + 256 * high) (low' + 256 * high')) 4
 next_pair low high low' high' bytes h l =
     record {
@@ -102,10 +100,10 @@ module _ (xs : List ℕ) (i : ℕ) {u v : ℕ} (within : i + 3 < length xs) (fir
   second_is : v ≡ get_or xs (i + 2) 0 + 256 * get_or xs (i + 3) 0
   second_is = grind arith
 
-  pub alone_at : is_low_surrogate v ≡ false → IsNext (drop i xs) 0xFFFD 2
+  pub alone_at : N.is_low_surrogate v ≡ false → IsNext (drop i xs) 0xFFFD 2
   alone_at low = rw drop_four (next_alone _ _ _ _ _ (rw first at high) (grind arith))
 
-  pub pair_at : is_low_surrogate v ≡ true → IsNext (drop i xs) (N.surrogate_pair_char u v) 4
+  pub pair_at : N.is_low_surrogate v ≡ true → IsNext (drop i xs) (N.surrogate_pair_char u v) 4
   pair_at low = rw (drop_four, first, second_is) (next_pair _ _ _ _ _ (rw first at high) (grind arith))
 
 -- ---- where a conversion of UTF-16 has come to what is withheld
@@ -118,9 +116,8 @@ pub record Ended (bytes to : List ℕ) (used made : ℕ) : Type 0 where
 -- nothing after this place is fixed
 pub ends_held : {bytes to : List ℕ} {used made : ℕ} → N.Converts bytes to used made → rest (drop used bytes) ≡ drop used bytes → Ended bytes to used made
 ends_held {bytes} {to} {used} {made} before held =
-    let run = take made to in
     record {
-      emits = N.sym (before.leads.emits ∙ ap (λ l. run ++ l) (emit_held rest text (drop used bytes) text_nil held) ∙ N.append-nil run);
+      emits = rw (before.leads.emits, N.JoiningLemmas.emit_held rest text (drop used bytes) text_nil held, N.append-nil);
       leaves = grind (arith, N.common_steps, short);
     }
 
@@ -132,14 +129,14 @@ pub ends_short : {bytes to : List ℕ} {used made : ℕ} → N.Converts bytes to
 ends_short = grind (arith, ends_held, few_held, N.length-drop)
 
 -- the text of whole data goes on with that of what is left of them
-pub whole_leads : {bytes more out : List ℕ} → N.Leads rest text bytes more out → length bytes % 2 ≡ 0 → length more % 2 ≡ 0 → text bytes ≡ out ++ text more
+pub whole_leads : {bytes more out : List ℕ} → Leads rest text bytes more out → length bytes % 2 ≡ 0 → length more % 2 ≡ 0 → text bytes ≡ out ++ text more
 whole_leads {bytes} {more} leads whole even =
     grind (arith, joins_utf16.ends bytes whole, joins_utf16.ends more even, leads.emits, leads.keeps, N.append_assoc)
 
 -- and ends where nothing is
-pub all_led : {bytes more out : List ℕ} → N.Leads rest text bytes more out → length bytes % 2 ≡ 0 → length more ≡ 0 → out ≡ text bytes
-all_led {bytes} {more} {out} leads whole none =
-    N.sym (whole_leads leads whole (omega arith) ∙ ap (λ l. out ++ text l) (N.nil_from_length more none) ∙ rw text_nil (N.append-nil out))
+pub all_led : {bytes more out : List ℕ} → Leads rest text bytes more out → length bytes % 2 ≡ 0 → length more ≡ 0 → out ≡ text bytes
+all_led {more = more} leads whole none =
+    rw (whole_leads leads whole (omega arith), N.nil_from_length more none, text_nil, N.append-nil)
 
 -- ---- withheld bytes of text in UTF-16, with the first ones of a piece
 
@@ -148,12 +145,12 @@ abbrev pub after : List ℕ → List ℕ → List ℕ
 after [] piece = piece
 after (byte ∷ kept) piece = rest (byte ∷ kept ++ take 3 piece) ++ drop 3 piece
 
-pub Leads-after : (kept piece : List ℕ) → N.Leads rest text (kept ++ piece) (after kept piece) (emit rest text (seam kept piece))
-Leads-after [] piece = rw text_nil Leads-none
+pub Leads-after : (kept piece : List ℕ) → Leads rest text (kept ++ piece) (after kept piece) (emit rest text (seam kept piece))
+Leads-after [] piece = rw text_nil N.JoiningLemmas.Leads-none
 Leads-after (byte ∷ kept) piece = N.JoiningLemmas.Leads-seam-front joins_utf16 (byte ∷ kept) piece 3 tt
 
 -- nothing is withheld
-pub none_leads : {kept : List ℕ} (piece : List ℕ) → kept ≡ [] → N.Leads rest text (kept ++ piece) piece (emit rest text (seam kept piece))
+pub none_leads : {kept : List ℕ} (piece : List ℕ) → kept ≡ [] → Leads rest text (kept ++ piece) piece (emit rest text (seam kept piece))
 none_leads = grind (arith, Leads-after)
 
 -- some bytes are withheld
@@ -162,6 +159,7 @@ seam_some = grind arith
 
 pub some_leads : {kept own : List ℕ} (piece bytes : List ℕ) (used : ℕ) → kept ≡ own → 0 < length kept → 3 ≤ length piece
     → bytes ≡ kept ++ take 3 piece → N.LeavesRest bytes 0 used
-    → N.Leads rest text (own ++ piece) (drop (used - length kept) piece) (emit rest text (seam own piece))
+    → Leads rest text (own ++ piece) (drop (used - length kept) piece) (emit rest text (seam own piece))
 some_leads {kept} piece bytes used same some long is left =
-    rw (← same, seam_some kept piece some, ← is) (Leads-seam joins_utf16 kept piece bytes 3 used is tt (grind (arith, N.length-append)) left.within left.rest)
+    rw (← same, seam_some kept piece some, ← is) (N.JoiningLemmas.Leads-seam joins_utf16 kept piece bytes 3 used is tt
+    (grind (arith, N.length-append)) left.within left.rest)

@@ -1,21 +1,21 @@
 -- The laws of UTF-8 in pieces.
 use Rattle.tds_text.proofs as N
-use N.{Bool, IsUtf8, List, None, Some, [], ap, arith, cases_lt, cond, emit, encode_utf8, false, get_or, inl, inr, is_utf8, length, nat_tests, of3, of4, refl}
-use N.{second_byte_max, second_byte_min, suc, take, true, zero, ℕ, ◌*◌, ◌++◌, ◌+◌, ◌-◌, ◌<◌, ◌∙◌, ◌∷◌, ◌≡◌, ◌≤◌, ◌⊎◌}
+use N.{Bool, IsUtf8, List, None, Some, ap, arith, cond, encode_utf8, false, get_or, inl, inr, is_utf8, length, refl, second_byte_max, second_byte_min, suc}
+use N.{take, true, ℕ, [], ⊎_elim, ◌*◌, ◌++◌, ◌+◌, ◌-◌, ◌<◌, ◌∙◌, ◌∷◌, ◌≡◌, ◌≤◌, ◌⊎◌}
 use N.JoiningLemmas.{HasFronts, doubled-append, emit-front, emits, ends, settled_front}
 use Rattle.std.specs.Str.Lossy.{utf8_error_len, utf8_valid_len}
 use Rattle.tds_text.specs.Utf8.{Begins, IsFit, rest, text}
 
 -- what is found going down is UTF-8, and nothing longer is
 front_up_to : (bs : List ℕ) (n : ℕ) → IsUtf8 (take (N.valid_len_up_to bs n) bs)
-front_up_to bs zero = N.IsUtf8-nil
+front_up_to bs N.zero = N.IsUtf8-nil
 front_up_to bs (suc n) = N.cond_both _ (suc n) _ (λ k. IsUtf8 (take k bs)) (N.IsUtf8-from_is_utf8 _) (λ _. front_up_to bs n)
 
 longest_up_to : (bs : List ℕ) (n m : ℕ) → N.valid_len_up_to bs n < m → m ≤ n → IsUtf8 (take m bs) → ⊥
-longest_up_to bs zero m below within u = omega arith
+longest_up_to bs N.zero m below within u = omega arith
 longest_up_to bs (suc n) m below within u =
     let passed = N.is_utf8-from_IsUtf8 (take m bs) u in
-    N.cond_both _ (suc n) _ (λ k. k < m → ⊥) (λ _. omega arith) (λ (refused : is_utf8 (take (suc n) bs) ≡ false) less. elim (cases_lt m (suc n)) [
+    N.cond_both _ (suc n) _ (λ k. k < m → ⊥) (λ _. omega arith) (λ (refused : is_utf8 (take (suc n) bs) ≡ false) less. elim (N.cases_lt m (suc n)) [
       | inl before ↦ longest_up_to bs n m less (omega arith) u
       | inr whole ↦ let same : m ≡ suc n = omega arith in cc
     ]) below
@@ -111,7 +111,7 @@ begun_rest a b =
   where
     go : (cs : List ℕ) → N.all_scalars cs ≡ true → N.encode_utf8_all cs ≡ rest a ++ b.0 → IsBegun (rest a) b.0
     go [] valid e = inl (N.nil_from_length (rest a) (omega (arith, ap length e, N.length-append (rest a) b.0)))
-    go (c ∷ cs) valid e = elim (cases_lt (length (rest a)) (length (encode_utf8 c))) [
+    go (c ∷ cs) valid e = elim (N.cases_lt (length (rest a)) (length (encode_utf8 c))) [
       | inl less ↦ grind (arith, N.encode_utf8_all, N.and_parts, valid)
       | inr more ↦
           let k = length (encode_utf8 c) in
@@ -158,8 +158,8 @@ front_none : (c : ℕ) (r more tail : List ℕ) → N.Scalar c → N.Shape c →
 unfolding utf8_error_len
 front_none c [] more tail k s e short = refl
 front_none c (x ∷ []) more tail k s e short = grind (arith, N.length-encode, four)
-front_none c (x ∷ y ∷ []) more tail k s e short = grind (arith, N.length-encode, four, N.⊎_elim, nat_tests)
-front_none c (x ∷ y ∷ z ∷ []) more tail k s e short = grind (arith, N.length-encode, four, nat_tests)
+front_none c (x ∷ y ∷ []) more tail k s e short = grind (arith, N.length-encode, four, ⊎_elim, N.nat_tests)
+front_none c (x ∷ y ∷ z ∷ []) more tail k s e short = grind (arith, N.length-encode, four, N.nat_tests)
 front_none c (x ∷ y ∷ z ∷ v ∷ r) more tail k s e short = grind (arith, N.length-encode)
 
 -- where some text begins so, std finds no fault in the rest
@@ -181,7 +181,7 @@ four_bytes a b d w l u lo hi dl dh wl wh = N.of_four (a ∷ b ∷ d ∷ w ∷ []
 
 -- a first byte of three or four, and the next two
 three_complete : (a b d : ℕ) → 224 ≤ a → a ≤ 244 → second_byte_min a ≤ b → b ≤ second_byte_max a → 128 ≤ d → d < 192 → Begins (a ∷ b ∷ d ∷ [])
-three_complete a b d l h lo hi dl dh = elim (cases_lt a 240) [
+three_complete a b d l h lo hi dl dh = elim (N.cases_lt a 240) [
   | inl three ↦ grind (arith, three_bytes)
   | inr four ↦ (128 ∷ [], four_bytes a b d 128 four h lo hi dl dh (omega arith) (omega arith))
 ]
@@ -190,7 +190,7 @@ one_completes : (a : ℕ) → 194 ≤ a → a ≤ 244 → Begins (a ∷ [])
 one_completes a l h =
     let b = second_byte_min a in
     let most : b ≤ second_byte_max a = grind arith in
-    elim (cases_lt a 224) [
+    elim (N.cases_lt a 224) [
       | inl two ↦ (b ∷ [], two_bytes a b l two (omega arith) most)
       | inr more ↦ let x = three_complete a b 128 more h (omega arith) most (omega arith) (omega arith) in (b ∷ 128 ∷ x.0, x.1)
     ]
@@ -209,9 +209,9 @@ completes : (r : List ℕ) → NoText r → utf8_error_len r ≡ None → Begins
 unfolding utf8_error_len
 completes [] none e = ([], N.IsUtf8-nil)
 completes (a ∷ []) none e = grind (arith, one_completes)
-completes (a ∷ b ∷ []) none e = grind (arith, two_complete, nat_tests)
-completes (a ∷ b ∷ d ∷ []) none e = grind (arith, three_complete, more_than_two, nat_tests)
-completes (a ∷ b ∷ d ∷ w ∷ r) none e = grind (arith, nat_tests)
+completes (a ∷ b ∷ []) none e = grind (arith, two_complete, N.nat_tests)
+completes (a ∷ b ∷ d ∷ []) none e = grind (arith, three_complete, more_than_two, N.nat_tests)
+completes (a ∷ b ∷ d ∷ w ∷ r) none e = grind (arith, N.nat_tests)
 
 -- where std finds no fault in the rest, some text begins so
 pub none_begins : (bytes : List ℕ) → utf8_error_len (rest bytes) ≡ None → Begins bytes

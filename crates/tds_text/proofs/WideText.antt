@@ -1,29 +1,24 @@
 -- The text of units that are characters of at most three bytes.
 use Rattle.tds_text.proofs as N
-use Rattle.std.proofs.Common.{slice_index_or}
-use N.{AddsUnits, Bool, Each1, Fits, List, ap, arith, chunk, drop, false, get_or, is_half, is_long, is_wide, length, map, mask_l, quad_bytes, refl, suc, sym}
-use N.{take, triples, true, unit_text, units_text, w16, zero, ℕ, [], ◌%◌, ◌*◌, ◌++◌, ◌+◌, ◌-◌, ◌/◌, ◌<◌, ◌^◌, ◌↔◌, ◌∙◌, ◌∷◌, ◌≡◌, ◌≤◌}
-use N.LaneMasks.{first_lanes, first_mask, front_alike, last_lanes, none_set}
-use N.Characters.{of_one, of_two, of_three, doubled_character}
-use N.Lookup.{bits, placed, same_texts, IsRow, pair_places, quad_places}
+use N.{Each1, Fits, List, ap, arith, chunk, count_ones, drop, evens, false, flat_map, get_or, is_long, is_wide, length, map, mask_l, quad_bytes, refl, suc}
+use N.{take, triples, true, units_text, w16, zero, ℕ, [], ◌%◌, ◌*◌, ◌++◌, ◌+◌, ◌-◌, ◌/◌, ◌<◌, ◌^◌, ◌↔◌, ◌∙◌, ◌∷◌, ◌≡◌, ◌≤◌}
+use N.Characters.{doubled_character, of_one, of_three, of_two}
 use N.JoiningLemmas.{Leads-none, Leads-trans}
+use N.Lookup.{IsRow, bits, placed, same_texts}
 use Rattle.tds_text.specs.Utf16.{units, rest, text}
-use Rattle.std.specs.List.{count_by}
-use Rattle.std.specs.Prelude.{count_ones, flat_map}
-use lib.Lanes.{zip2}
 
-plain_text : (u : ℕ) → is_wide u ≡ false → unit_text u ≡ u ∷ []
+plain_text : (u : ℕ) → is_wide u ≡ false → N.unit_text u ≡ u ∷ []
 plain_text = grind (arith, of_one)
 
 -- how long the text of a unit is, and that of units
-unit_size : (u : ℕ) → u < 65536 → length (unit_text u) ≡ 1 + (N.cond (is_wide u) 1 0 + N.cond (is_long u) 1 0)
+unit_size : (u : ℕ) → u < 65536 → length (N.unit_text u) ≡ 1 + (N.cond (is_wide u) 1 0 + N.cond (is_long u) 1 0)
 unit_size = grind (arith, of_one, of_two, of_three, doubled_character)
 
 text_size : (us : List ℕ) {wide long : ℕ} → Each1 (λ u. u < 65536) us → wide ≡ mask_l (map is_wide us) → long ≡ mask_l (map is_long us)
     → length (units_text us) ≡ length us + (count_ones wide + count_ones long)
 text_size us range wide_is long_is = rw (wide_is, long_is, N.ones-mask_l, N.ones-mask_l) (sizes us range)
   where
-    sizes : (us : List ℕ) → Each1 (λ u. u < 65536) us → length (units_text us) ≡ length us + (count_by is_wide us + count_by is_long us)
+    sizes : (us : List ℕ) → Each1 (λ u. u < 65536) us → length (units_text us) ≡ length us + (N.count_by is_wide us + N.count_by is_long us)
     sizes [] small = refl
     sizes (u ∷ us) small = let one = unit_size u small.0 in let more = sizes us small.1 in grind (arith, N.length-append, N.common_steps)
 
@@ -41,12 +36,12 @@ each_left P (suc n) (u ∷ us) each = each_left P n us each.1
 
 -- the first and the other units
 split_lanes : (lane : ℕ → List ℕ) (n : ℕ) (us : List ℕ) → flat_map lane us ≡ flat_map lane (take n us) ++ flat_map lane (drop n us)
-split_lanes lane n us = sym (grind (arith, N.take-append-drop)) ∙ N.flat_map-append lane (take n us) (drop n us)
+split_lanes lane n us = N.sym (grind (arith, N.take-append-drop)) ∙ N.flat_map-append lane (take n us) (drop n us)
 
 -- the text of units is gathered from their bytes by a row for their masks
-row_taken : (width m : ℕ) (lane : ℕ → List ℕ) (f : Bool → Bool → List ℕ) → ((u : ℕ) → length (lane u) ≡ width)
+row_taken : (width m : ℕ) (lane : ℕ → List ℕ) (f : N.Bool → N.Bool → List ℕ) → ((u : ℕ) → length (lane u) ≡ width)
     → ((u : ℕ) → Each1 (λ k. k < length (lane u)) (f (is_wide u) (is_long u))) → (us more : List ℕ) {row xs : List ℕ} {wide long : ℕ}
-    → IsRow row (placed width 0 (zip2 f (bits m wide) (bits m long))) → length us ≤ m → xs ≡ flat_map lane us ++ more
+    → IsRow row (placed width 0 (N.zip2 f (bits m wide) (bits m long))) → length us ≤ m → xs ≡ flat_map lane us ++ more
     → wide ≡ mask_l (map is_wide us) → long ≡ mask_l (map is_long us) → Each1 (λ u. u < 65536) us
     → flat_map (λ u. map (λ k. get_or (lane u) k 0) (f (is_wide u) (is_long u))) us ≡ units_text us
     → take (length us + (count_ones wide + count_ones long)) (map (λ j. get_or xs j 0) row) ≡ units_text us
@@ -62,9 +57,9 @@ pairs_taken us n {wide} eight few fits bytes is short =
     let vs = take n us in
     let counted : length vs ≡ n = N.length-take-le n us (omega arith) in
     let size : length vs + (count_ones wide + count_ones 0) ≡ n + count_ones wide = omega (arith, N.ones-mask_l is_long []) in
-    rw size at (row_taken 2 8 N.pair_bytes pair_places (λ u. refl) (grind arith) vs (flat_map N.pair_bytes (drop n us))
-    (N.Lookup.pair_row wide (first_mask is_wide us n eight few is).0)
-    (omega arith) (bytes ∙ split_lanes N.pair_bytes n us) is (sym (none_set is_long vs short)) (unit_range vs (each_taken (Fits w16) n us fits))
+    rw size at (row_taken 2 8 N.pair_bytes N.Lookup.pair_places (λ u. refl) (grind arith) vs (flat_map N.pair_bytes (drop n us))
+    (N.Lookup.pair_row wide (N.LaneMasks.first_mask is_wide us n eight few is).0)
+    (omega arith) (bytes ∙ split_lanes N.pair_bytes n us) is (N.sym (N.LaneMasks.none_set is_long vs short)) (unit_range vs (each_taken (Fits w16) n us fits))
     (same_texts (grind (arith, of_one, of_two)) vs short))
 
 -- and that of any from the bytes of four
@@ -72,7 +67,7 @@ pub quads_taken : (us more : List ℕ) {xs : List ℕ} {wide long : ℕ} → len
     → wide ≡ mask_l (map is_wide us) → long ≡ mask_l (map is_long us) → Each1 (λ u. u < 65536) us
     → take (length us + count_ones (wide + 16 * long)) (map (λ j. get_or xs j 0) (get_or N.QUADS (wide + 16 * long) [])) ≡ units_text us
 quads_taken us more {wide} {long} few small small' is wide_is long_is range =
-    rw (← (N.Lookup.ones_of_two wide long small small').0) at (row_taken 4 4 quad_bytes quad_places (λ u. refl) (grind arith) us more
+    rw (← (N.Lookup.ones_of_two wide long small small').0) at (row_taken 4 4 quad_bytes N.Lookup.quad_places (λ u. refl) (grind arith) us more
     (N.Lookup.quad_row wide long small small') few is wide_is long_is range (same_texts (grind (arith, of_one, of_two, of_three, doubled_character)) us range))
 
 take_both : (n m : ℕ) (us : List ℕ) → take n (take m us) ≡ take m (take n us)
@@ -86,7 +81,7 @@ module _ (us : List ℕ) (n : ℕ) {old new xs : List ℕ} {at end m wide long :
   first_added counted =
       let vs = take n us in
       adds.adds (take 4 vs) (flat_map quad_bytes (drop n (take 4 us))) counted (is ∙ rw (take_both n 4 us) at (split_lanes quad_bytes n (take 4 us)))
-      (first_lanes is_wide 4 vs wide_is) (grind arith) (grind (arith, each_taken, unit_range))
+      (N.LaneMasks.first_lanes is_wide 4 vs wide_is) (grind arith) (grind (arith, each_taken, unit_range))
 
   pub few_added : n ≤ 4 → m ≡ n → (take end new ≡ take at old ++ units_text (take n us)) × (end ≤ at + 3 * n)
   few_added small counted =
@@ -103,8 +98,8 @@ module _ (us : List ℕ) (n : ℕ) {old new xs : List ℕ} {at end m wide long :
       let size = N.length-take-le n us (omega arith) in
       let first = first_added (grind arith) in
       let others = more.adds (drop 4 vs) (flat_map quad_bytes (drop (n - 4) (drop 4 us))) (grind arith)
-      (grind (arith, N.drop-take, split_lanes)) (last_lanes is_wide vs wide_is)
-      (last_lanes is_long vs long_is) (grind (arith, each_left, each_taken, unit_range)) in
+      (grind (arith, N.drop-take, split_lanes)) (N.LaneMasks.last_lanes is_wide vs wide_is)
+      (N.LaneMasks.last_lanes is_long vs long_is) (grind (arith, each_left, each_taken, unit_range)) in
       grind (arith, N.append_assoc, split_lanes)
 
 -- long characters have three bytes each
@@ -112,11 +107,11 @@ long_texts : (n : ℕ) (us : List ℕ) → Each1 (λ u. u < 65536) us → Each1 
 long_texts zero us small each = refl
 long_texts (suc n) [] small each =
     let three : 3 * suc n ≡ suc (suc (suc (3 * n))) = omega arith in
-    rw three refl
+    rw three
 long_texts (suc n) (u ∷ us) small each =
     let three : 3 * suc n ≡ suc (suc (suc (3 * n))) = omega arith in
-    let text : unit_text u ≡ (224 + u / 4096) ∷ (128 + u / 64 % 64) ∷ (128 + u % 64) ∷ [] = grind (arith, of_three, small.0, each.0) in
-    rw (three, text, ← long_texts n us small.1 each.1) refl
+    let text : N.unit_text u ≡ (224 + u / 4096) ∷ (128 + u / 64 % 64) ∷ (128 + u % 64) ∷ [] = grind (arith, of_three, small.0, each.0) in
+    rw (three, text, ← long_texts n us small.1 each.1)
 
 shorter : (k m : ℕ) (xs ys : List ℕ) → k ≤ m → take m xs ≡ take m ys → take k xs ≡ take k ys
 shorter k m xs ys few same = rw (← N.take-take k m xs few, same) (N.take-take k m ys few)
@@ -139,7 +134,7 @@ module _ (us low old new : List ℕ) (at n : ℕ) (fits : Each1 (Fits w16) us) (
       grind (arith, N.append_assoc)
 
 -- the low bytes of characters of ASCII are their text
-plain_texts : (n : ℕ) (ys : List ℕ) → Each1 (λ u. is_wide u ≡ false) (take n (units ys)) → take n (N.evens ys) ≡ units_text (take n (units ys))
+plain_texts : (n : ℕ) (ys : List ℕ) → Each1 (λ u. is_wide u ≡ false) (take n (units ys)) → take n (evens ys) ≡ units_text (take n (units ys))
 plain_texts zero ys each = refl
 plain_texts n [] each = grind arith
 plain_texts n (low ∷ []) each = grind arith
@@ -154,19 +149,19 @@ length-units (low ∷ high ∷ xs) = let more = length-units xs in grind arith
 -- the bytes at every second place, so many from one on
 abbrev every_second : ℕ → List ℕ → ℕ → List ℕ
 every_second zero zs i = []
-every_second (suc k) zs i = slice_index_or zs i 0 ∷ every_second k zs (suc (suc i))
+every_second (suc k) zs i = N.slice_index_or zs i 0 ∷ every_second k zs (suc (suc i))
 
 later_places : (k a b : ℕ) (zs : List ℕ) (i : ℕ) → every_second k (a ∷ b ∷ zs) (suc (suc i)) ≡ every_second k zs i
 later_places zero a b zs i = refl
-later_places (suc k) a b zs i = ap (λ l. slice_index_or zs i 0 ∷ l) (later_places k a b zs (suc (suc i)))
+later_places (suc k) a b zs i = ap (λ l. N.slice_index_or zs i 0 ∷ l) (later_places k a b zs (suc (suc i)))
 
-pub evens_at : (k : ℕ) (zs : List ℕ) → length zs ≡ 2 * k → every_second k zs 0 ≡ N.evens zs
+pub evens_at : (k : ℕ) (zs : List ℕ) → length zs ≡ 2 * k → every_second k zs 0 ≡ evens zs
 evens_at zero [] long = refl
 evens_at (suc k) (a ∷ b ∷ zs) long = ap (λ l. a ∷ l) (later_places k a b zs 0 ∙ evens_at k zs (omega arith))
 evens_at k zs long = grind arith
 
 -- units below 128 whose low bytes are no quotes are characters of ASCII and no quotes
-plain_units : (ys : List ℕ) → Each1 (λ u. is_wide u ≡ false) (units ys) ↔ (Each1 (λ u. u < 128) (units ys) × Each1 (λ b. N.is_unquoted b ≡ true) (N.evens ys))
+plain_units : (ys : List ℕ) → Each1 (λ u. is_wide u ≡ false) (units ys) ↔ (Each1 (λ u. u < 128) (units ys) × Each1 (λ b. N.is_unquoted b ≡ true) (evens ys))
 plain_units [] = (λ _. (tt, tt), λ _. tt)
 plain_units (low ∷ []) = (λ _. (tt, tt), λ _. tt)
 plain_units (low ∷ high ∷ ys) =
@@ -188,7 +183,7 @@ each-append P (x ∷ xs) ys = let more = each-append P xs ys in
 
 -- those of two loads, of which the first has so many
 pub both_plain : (k : ℕ) (xs ys : List ℕ) → length xs ≡ 2 * k → Each1 (λ u. is_wide u ≡ false) (units (xs ++ ys))
-    ↔ ((Each1 (λ u. u < 128) (units xs) × Each1 (λ u. u < 128) (units ys)) × Each1 (λ b. N.is_unquoted b ≡ true) (N.evens (xs ++ ys)))
+    ↔ ((Each1 (λ u. u < 128) (units xs) × Each1 (λ u. u < 128) (units ys)) × Each1 (λ b. N.is_unquoted b ≡ true) (evens (xs ++ ys)))
 both_plain k xs ys long =
     let joined = units-append k xs ys long in (
       λ plain. let parts = (plain_units (xs ++ ys)).0 plain in ((each-append _ _ _).0 (rw joined at parts.0), parts.1),
@@ -197,8 +192,8 @@ both_plain k xs ys long =
 
 -- the first of so many are characters of ASCII, and were written
 pub plain_added : (ys old new kept : List ℕ) {us low : List ℕ} {at : ℕ} (n w : ℕ) → n ≤ w → at ≤ length old → us ≡ units ys
-    → take n kept ≡ take n us → Each1 (λ u. is_wide u ≡ false) kept → low ≡ N.evens ys → take (at + w) new ≡ take at old ++ take w low
-    → AddsUnits old new at (at + n) n (units ys)
+    → take n kept ≡ take n us → Each1 (λ u. is_wide u ≡ false) kept → low ≡ evens ys → take (at + w) new ≡ take at old ++ take w low
+    → N.AddsUnits old new at (at + n) n (units ys)
 plain_added ys old new kept {low = low} {at} n w few within is same none low_is written =
     let plain = rw (same, is) at (each_taken _ n kept none) in record {
       most = omega arith;
@@ -207,11 +202,11 @@ plain_added ys old new kept {low = low} {at} n w few within is same none low_is 
       single = N.Each1-weaker _ _ (grind arith) _ plain;
     }
 
-leads_unit : (low high : ℕ) (more : List ℕ) → is_half (low + 256 * high) ≡ false → N.Leads rest text (low ∷ high ∷ more) more (unit_text (low + 256 * high))
+leads_unit : (low high : ℕ) (more : List ℕ) → N.is_half (low + 256 * high) ≡ false → N.Leads rest text (low ∷ high ∷ more) more (N.unit_text (low + 256 * high))
 leads_unit = grind (arith, N.Utf16Steps.next_one)
 
 -- so many of the units lead on
-pub leads_front : (k : ℕ) (ys more : List ℕ) → k ≤ length (units ys) → Each1 (λ u. is_half u ≡ false) (take k (units ys))
+pub leads_front : (k : ℕ) (ys more : List ℕ) → k ≤ length (units ys) → Each1 (λ u. N.is_half u ≡ false) (take k (units ys))
     → N.Leads rest text (take (2 * k) ys ++ more) more (units_text (take k (units ys)))
 leads_front zero ys more few each = Leads-none
 leads_front (suc k) (low ∷ high ∷ ys) more few each =
@@ -221,7 +216,7 @@ leads_front k ys more few each = grind arith
 
 -- two loads after one another are one
 pub two_chunks : (n m at : ℕ) (bytes : List ℕ) → chunk at n bytes ++ chunk (at + n) m bytes ≡ chunk at (n + m) bytes
-two_chunks n m at bytes = rw (N.take-add n m (drop at bytes), N.drop-drop n at bytes) refl
+two_chunks n m at bytes = rw (N.take-add n m (drop at bytes), N.drop-drop n at bytes)
 
 -- all the bytes are a source of their own
 pub lies_itself : (bytes : List ℕ) → N.LiesIn bytes bytes
@@ -233,31 +228,31 @@ none_converted bytes to = record { within = omega arith; room = omega arith; lea
 
 -- so many units of a source that begins with the bytes were converted after what was before
 pub units_more : {bytes source old new : List ℕ} {at made after n : ℕ} (w : ℕ) → N.LiesIn bytes source → at + 2 * w ≤ length source → n ≤ w
-    → at + 2 * n ≤ length bytes → AddsUnits old new made after n (units (chunk at (2 * w) source)) → N.Converts bytes old at made
+    → at + 2 * n ≤ length bytes → N.AddsUnits old new made after n (units (chunk at (2 * w) source)) → N.Converts bytes old at made
     → N.Converts bytes new (at + 2 * n) after
 units_more {bytes} {source} {at = at} {n = n} w lies room few within added before =
     let ys = chunk at (2 * w) source in
     let counted : length (units ys) ≡ w = omega (arith, length-units ys, N.length-chunk at (2 * w) source room) in
-    let next = rw (← (front_alike bytes source at (2 * n) (2 * w) lies (omega arith) within), N.take-append-drop, N.drop-drop (2 * n) at bytes) at
+    let next = rw (← (N.LaneMasks.front_alike bytes source at (2 * n) (2 * w) lies (omega arith) within), N.take-append-drop, N.drop-drop (2 * n) at bytes) at
     (leads_front n ys (drop (2 * n) (drop at bytes)) (omega arith) added.single) in
     let most = added.most in
     record { within = within; room = omega arith; leads = rw added.written (Leads-trans before.leads next) }
 
 -- so were all of so many units of the bytes
 pub all_more : {bytes old new : List ℕ} {at made after : ℕ} (w : ℕ) → at + 2 * w ≤ length bytes
-    → AddsUnits old new made after w (units (chunk at (2 * w) bytes)) → N.Converts bytes old at made → N.Converts bytes new (at + 2 * w) after
+    → N.AddsUnits old new made after w (units (chunk at (2 * w) bytes)) → N.Converts bytes old at made → N.Converts bytes new (at + 2 * w) after
 all_more {bytes} w room = units_more w (lies_itself bytes) room (omega arith) room
 
 -- so were sixteen units of two loads, of characters of ASCII
 pub plain_more : {bytes old new low : List ℕ} {at end made : ℕ} → at + 32 ≤ end → length new ≡ length old
-    → Each1 (λ u. is_wide u ≡ false) (units (chunk at 16 bytes ++ chunk (at + 16) 16 bytes)) → low ≡ N.evens (chunk at 16 bytes ++ chunk (at + 16) 16 bytes)
+    → Each1 (λ u. is_wide u ≡ false) (units (chunk at 16 bytes ++ chunk (at + 16) 16 bytes)) → low ≡ evens (chunk at 16 bytes ++ chunk (at + 16) 16 bytes)
     → take (made + 16) new ≡ take made old ++ take 16 low → N.MayConvertSingles bytes old at end made
     → N.MayConvertSingles bytes new (at + 32) end (made + 16)
 plain_more {bytes} {old} {new} {at = at} room same plain low_is written may =
     let two = two_chunks 16 16 at bytes in
     record {
       before = all_more 16 (omega arith) (plain_added (chunk at 32 bytes) old new _ 16 16 (omega arith) (omega arith) refl refl (rw two at plain)
-          (low_is ∙ ap N.evens two) written) may.before;
+          (low_is ∙ ap evens two) written) may.before;
       more = room;
       within = may.within;
       room = omega arith;

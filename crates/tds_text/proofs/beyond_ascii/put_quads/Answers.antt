@@ -1,9 +1,8 @@
 use Rattle.tds_text.proofs as N
 use N.beyond_ascii.put_quads.Goals as goal
-use N.LaneMasks.{few_ones}
 
 pub gathered-requires-clause-places : goal.gathered-requires-clause-places
-gathered-requires-clause-places c = rw c.quad_places.ensures (N.Lookup.quad_row c.args.wide c.args.long c.requires.wide c.requires.long).small
+gathered-requires-clause-places c = rw c.quad_places.ensures (N.Lookup.quad_row _ _ c.requires.wide c.requires.long).small
 
 pub returns : goal.returns
 returns c = record {
@@ -17,9 +16,9 @@ returns c = record {
     omega (
       N.arith,
       long,
-      (N.Lookup.ones_of_two c.args.wide c.args.long c.requires.wide c.requires.long).0,
-      few_ones N.is_wide units wide_is,
-      few_ones N.is_long units long_is,
+      (N.Lookup.ones_of_two _ _ c.requires.wide c.requires.long).0,
+      N.LaneMasks.few_ones N.is_wide units wide_is,
+      N.LaneMasks.few_ones N.is_long units long_is,
     ),
   );
 }

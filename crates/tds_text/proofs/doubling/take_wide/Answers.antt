@@ -1,15 +1,15 @@
 use Rattle.tds_text.proofs as N
-use N.doubling.take_wide.Goals as goal
-use N.{◌∙◌, ◌++◌}
+use N.{arith, ◌++◌, ◌∙◌}
 use N.LaneMasks.{run_most}
+use N.doubling.take_wide.Goals as goal
 
 pub take_before-requires-clause-stops : goal.take_before-requires-clause-stops
-take_before-requires-clause-stops c = omega (N.arith, run_most N.is_unquoted c.args.bytes.now c.args.at 32 c.requires.wide)
+take_before-requires-clause-stops c = omega (arith, run_most N.is_unquoted _ _ 32 c.requires.wide)
 
 pub returns-clause-most : goal.returns-clause-most
-returns-clause-most c = omega (N.arith, run_most N.is_unquoted c.args.bytes.now c.args.at 32 c.requires.wide)
+returns-clause-most c = omega (arith, run_most N.is_unquoted _ _ 32 c.requires.wide)
 
 pub returns-clause-taken : goal.returns-clause-taken
 returns-clause-taken c =
-    c.take_before.ensures.taken ∙ N.ap (λ l. N.take c.args.made c.args.to.now ++ l) (N.Singles.unquoted_lanes 32 c.args.bytes.now c.args.at _
-    (omega (N.arith, run_most N.is_unquoted c.args.bytes.now c.args.at 32 c.requires.wide)) (grind N.arith))
+    c.take_before.ensures.taken ∙ N.ap (λ l. N.take c.args.made c.args.to.now ++ l) (N.Singles.unquoted_lanes 32 _ c.args.at _
+    (omega (arith, run_most N.is_unquoted _ _ 32 c.requires.wide)) (grind arith))

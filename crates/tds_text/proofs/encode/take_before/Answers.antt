@@ -1,9 +1,8 @@
 use Rattle.tds_text.proofs as N
 use N.encode.take_before.Goals as goal
-use N.{arith}
 
 pub put_lanes-requires : goal.put_lanes-requires
-put_lanes-requires c = (omega arith, (N.length-chunk c.args.at 32 c.args.bytes.now c.requires.wide, ((omega arith), (omega arith))))
+put_lanes-requires c = (omega N.arith, (N.length-chunk _ 32 _ c.requires.wide, ((omega N.arith), (omega N.arith))))
 
 pub put_lanes-requires-2 : goal.put_lanes-requires-2
-put_lanes-requires-2 c = (omega arith, (N.length-chunk c.args.at 32 c.args.bytes.now c.requires.wide, ((omega arith), (omega arith))))
+put_lanes-requires-2 c = (omega N.arith, (N.length-chunk _ 32 _ c.requires.wide, ((omega N.arith), (omega N.arith))))

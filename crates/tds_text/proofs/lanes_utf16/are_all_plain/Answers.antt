@@ -1,20 +1,19 @@
 use Rattle.tds_text.proofs as N
-use N.lanes_utf16.are_all_plain.Goals as goal
-use N.LaneMasks.{no_quotes}
 use N.WideText.{both_plain}
+use N.lanes_utf16.are_all_plain.Goals as goal
 
 pub returns-then-not-are_ascii-clause-other : goal.returns-then-not-are_ascii-clause-other
 returns-then-not-are_ascii-clause-other c = λ _ plain.
-    let small = ((both_plain 8 c.args.first c.args.second c.fits-first.0).0 plain).0 in
+    let small = ((both_plain 8 _ _ c.fits-first.0).0 plain).0 in
     c.are_ascii.ensures.other (grind (N.arith, c.if-not-are_ascii.true)) (rw c.units_of.ensures small.0) (rw c.units_of-2.ensures small.1)
 
 pub returns-clause-plain : goal.returns-clause-plain
 returns-clause-plain c = λ none.
     let small = rw (c.units_of.ensures, c.units_of-2.ensures) at (c.are_ascii.ensures.small (grind (N.arith, c.if-not-are_ascii.false))) in
-    (both_plain 8 c.args.first c.args.second c.fits-first.0).1 (small, (no_quotes _ (rw c.all_low_bytes.ensures at c.quotes_in.ensures)).0 none)
+    (both_plain 8 _ _ c.fits-first.0).1 (small, (N.LaneMasks.no_quotes _ (rw c.all_low_bytes.ensures at c.quotes_in.ensures)).0 none)
 
 pub returns-clause-other : goal.returns-clause-other
 returns-clause-other c = λ some plain.
-    let parts = (both_plain 8 c.args.first c.args.second c.fits-first.0).0 plain in
-    let none = (no_quotes _ (rw c.all_low_bytes.ensures at c.quotes_in.ensures)).1 parts.1 in
+    let parts = (both_plain 8 _ _ c.fits-first.0).0 plain in
+    let none = (N.LaneMasks.no_quotes _ (rw c.all_low_bytes.ensures at c.quotes_in.ensures)).1 parts.1 in
     absurd (grind (N.arith, some, none))

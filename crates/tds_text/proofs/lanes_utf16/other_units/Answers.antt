@@ -1,5 +1,4 @@
 use Rattle.tds_text.proofs as N
-use N.LaneMasks.{lanes, mask_of}
 
 pub returns : N.lanes_utf16.other_units.Goals.returns
-returns c = let long = c.fits-units.0 in simp lanes (mask_of (grind N.arith) c.args.units (omega N.arith) c.fits-units.1)
+returns c = let long = c.fits-units.0 in simp N.LaneMasks.lanes (N.LaneMasks.mask_of (grind N.arith) _ (omega N.arith) c.fits-units.1)

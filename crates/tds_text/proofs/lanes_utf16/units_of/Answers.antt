@@ -1,4 +1,4 @@
 use Rattle.tds_text.proofs as N
 
 pub returns : N.lanes_utf16.units_of.Goals.returns
-returns c = N.Lookup.units_of_bytes 8 c.args.bytes (omega N.arith) c.fits-bytes.1
+returns c = N.Lookup.units_of_bytes 8 _ (omega N.arith) c.fits-bytes.1

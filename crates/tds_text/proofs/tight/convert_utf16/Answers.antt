@@ -1,27 +1,26 @@
 use Rattle.tds_text.proofs as N
+use N.{arith, take, ℕ, ◌%◌, ◌*◌, ◌++◌, ◌+◌, ◌-◌, ◌/◌, ◌∙◌, ◌≡◌, ◌≤◌}
+use N.WideText.{lies_itself, units_more}
 use N.tight.convert_utf16.Goals as goal
-use N.{◌≡◌, ◌∙◌, ◌≤◌, ◌++◌, ◌+◌, ◌-◌, ◌*◌, ◌/◌, ◌%◌, ℕ, List, length, take}
-use borrow.Rule.Slice.PartMut.{put_mid}
-use N.WideText.{lies_itself, none_converted, units_more}
 
 pub convert_ascii-plain-requires : goal.convert_ascii-plain-requires
 convert_ascii-plain-requires c =
     let bytes = c.args.bytes.now in
-    let few = length bytes / 2 % 16 in
-    let at : 0 + 2 * (few % 8) ≡ 2 * (few % 8) = omega N.arith in
-    let begun = rw at at (units_more {at = 0} {made = 0} 8 (lies_itself bytes) (omega N.arith) (omega N.arith) (omega N.arith)
-    c.in_ok-first.ensures (none_converted bytes c.args.to.now)) in
-    let all : 2 * (few % 8) + 2 * (few - few % 8) ≡ 2 * few = omega N.arith in
+    let few = N.length bytes / 2 % 16 in
+    let at : 0 + 2 * (few % 8) ≡ 2 * (few % 8) = omega arith in
+    let begun = rw at at (units_more {at = 0} {made = 0} 8 (lies_itself bytes) (omega arith) (omega arith) (omega arith)
+    c.in_ok-first.ensures (N.WideText.none_converted bytes _)) in
+    let all : 2 * (few % 8) + 2 * (few - few % 8) ≡ 2 * few = omega arith in
     record {
-      before = rw all at (units_more {at = 2 * (few % 8)} 8 (lies_itself bytes) (omega N.arith) (omega N.arith) (omega N.arith) c.in_ok-second.ensures begun);
-      more = omega N.arith;
-      within = omega N.arith;
-      room = omega (N.arith, c.in_ok-first.ensures.most, c.in_ok-second.ensures.most);
+      before = rw all at (units_more {at = 2 * (few % 8)} 8 (lies_itself bytes) (omega arith) (omega arith) (omega arith) c.in_ok-second.ensures begun);
+      more = omega arith;
+      within = omega arith;
+      room = omega (arith, c.in_ok-first.ensures.most, c.in_ok-second.ensures.most);
     }
 
 -- a text and more after it
-take_put : (a k n : ℕ) (xs ys : List ℕ) → a ≤ length xs → n ≤ length ys → take a xs ++ take n ys ≡ take (a + n) (put_mid a k xs ys)
-take_put a k n xs ys within few = grind (N.arith, N.length-take-le, N.take-append-add, N.take-append-le)
+take_put : (a k n : ℕ) (xs ys : N.List ℕ) → a ≤ N.length xs → n ≤ N.length ys → take a xs ++ take n ys ≡ take (a + n) (N.put_mid a k xs ys)
+take_put a k n xs ys within few = grind (arith, N.length-take-le, N.take-append-add, N.take-append-le)
 
 pub returns-clause-text : goal.returns-clause-text
 returns-clause-text c =
@@ -29,6 +28,6 @@ returns-clause-text c =
     let to = run.new.to in
     let more = rw (N.UsualText.rest_of) at c.convert_whole.ensures.text in
     let all = N.Utf16Steps.whole_leads run.ensures.gives.after.leads c.requires.whole
-    (omega (N.arith, N.length-drop run.result.used c.args.bytes.now)) in
-    let joined = take_put run.result.made (length to - run.result.made) c.convert_whole.result to c.convert_whole.new.to (omega N.arith) (omega N.arith) in
+    (omega (arith, N.length-drop run.result.used c.args.bytes.now)) in
+    let joined = take_put run.result.made (N.length to - run.result.made) _ to _ (omega arith) (omega arith) in
     N.sym joined ∙ N.ap (λ l. take run.result.made to ++ l) more ∙ N.sym all

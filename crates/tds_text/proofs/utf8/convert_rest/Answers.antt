@@ -1,17 +1,17 @@
 use Rattle.tds_text.proofs as N
-use N.utf8.convert_rest.Goals as goal
 use N.{◌-◌}
-use N.UsualText.{begun_more, begun_none, rest_of}
+use N.utf8.convert_rest.Goals as goal
 
 pub returns-then-scan-rest : goal.returns-then-scan-rest
 returns-then-scan-rest c =
-    let is = rest_of c.args.bytes.now c.args.after.used in
-    begun_none _ _ c.requires.before (rw is at c.scan_text-scan.ensures.scan) (rw is at c.if-scan-rest.true)
+    let is = N.UsualText.rest_of c.args.bytes.now c.args.after.used in
+    N.UsualText.begun_none _ _ c.requires.before (rw is at c.scan_text-scan.ensures.scan) (rw is at c.if-scan-rest.true)
 
 pub returns : goal.returns
 returns c =
-    let is = rest_of c.args.bytes.now c.args.after.used in
-    begun_more _ _ c.requires.before (rw is at c.scan_text-scan.ensures.scan) (rw is at c.scan_text-scan.ensures.text) (rw is at c.if-scan-rest.false)
+    let is = N.UsualText.rest_of c.args.bytes.now c.args.after.used in
+    N.UsualText.begun_more _ _ c.requires.before (rw is at c.scan_text-scan.ensures.scan) (rw is at c.scan_text-scan.ensures.text)
+    (rw is at c.if-scan-rest.false)
     (omega (
       N.arith,
       c.convert-made.ensures.short,

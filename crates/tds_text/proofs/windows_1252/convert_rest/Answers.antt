@@ -1,10 +1,8 @@
 use Rattle.tds_text.proofs as N
 use N.windows_1252.convert_rest.Goals as goal
-use N.SingleLaws.{windows_1252-append, windows_1252_bytewise}
-use N.Singles.{itself_taken, one_taken, plain_text}
 
 pub loop-at-preserved-then-n-eq-LANES : goal.loop-at-preserved-then-n-eq-LANES
-loop-at-preserved-then-n-eq-LANES = grind (N.arith, N.common_steps, windows_1252-append, N.take-add, plain_text)
+loop-at-preserved-then-n-eq-LANES = grind (N.arith, N.common_steps, N.SingleLaws.windows_1252-append, N.take-add, N.Singles.plain_text)
 
 pub loop-at-preserved : goal.loop-at-preserved
 loop-at-preserved c = record {
@@ -12,6 +10,7 @@ loop-at-preserved c = record {
   within = omega N.arith;
   long = search N.rules;
   room = omega N.arith;
-  text = one_taken windows_1252_bytewise c.args.bytes.now _ (search N.arith) c.put_text-made.ensures.written
-      (itself_taken windows_1252_bytewise _ _ _ c.take_plain-n.ensures.taken (plain_text _ c.take_plain-n.ensures.plain) c.loop-at.invariant.text);
+  text = N.Singles.one_taken N.SingleLaws.windows_1252_bytewise _ _ (search N.arith) c.put_text-made.ensures.written
+      (N.Singles.itself_taken N.SingleLaws.windows_1252_bytewise _ _ _ c.take_plain-n.ensures.taken
+      (N.Singles.plain_text _ c.take_plain-n.ensures.plain) c.loop-at.invariant.text);
 }
