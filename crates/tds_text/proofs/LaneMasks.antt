@@ -1,7 +1,7 @@
 -- Masks of lanes that pass a test.
 use Rattle.tds_text.proofs as N
-use N.{Bool, Each1, Fits, List, ap, ap₂, arith, bit_and, bit_or, chunk, cond, drop, false, fold_l, length, ltb, map, mask_l, not, refl, replicate, suc, take}
-use N.{true, w16, w8, zero, zip2, ℕ, [], ◌%◌, ◌*◌, ◌++◌, ◌+◌, ◌-◌, ◌/◌, ◌<◌, ◌^◌, ◌||◌, ◌↔◌, ◌∙◌, ◌∷◌, ◌≡◌, ◌≤◌}
+use N.{Bool, Each1, Fits, List, arith, bit_and, bit_or, chunk, cond, drop, false, fold_l, length, ltb, map, mask_l, not, refl, replicate, suc, take, true}
+use N.{w16, w8, zero, zip2, ℕ, [], ◌%◌, ◌*◌, ◌++◌, ◌+◌, ◌-◌, ◌/◌, ◌<◌, ◌^◌, ◌||◌, ◌↔◌, ◌∙◌, ◌∷◌, ◌≡◌, ◌≤◌}
 
 -- ---- what is computed lane by lane
 
@@ -12,16 +12,14 @@ mapped f g xs n y long = N.zip2_splat f (map g xs) n y (N.length-map xs g ∙ lo
 -- of two vectors, each lane of the first with the one of the second
 pub side_by_side : {A B : Type 0} (op : ℕ → ℕ → ℕ) (f : A → ℕ) (g : B → ℕ) (xs : List A) (ys : List B)
     → zip2 op (map f xs) (map g ys) ≡ map (λ (p : A × B). op (f p.0) (g p.1)) (zip2 (λ x y. (x, y)) xs ys)
-side_by_side op f g [] ys = refl
-side_by_side op f g (x ∷ xs) [] = refl
-side_by_side op f g (x ∷ xs) (y ∷ ys) = ap (λ l. op (f x) (g y) ∷ l) (side_by_side op f g xs ys)
+side_by_side op f g (x ∷ xs) (y ∷ ys) = rw (side_by_side op f g xs ys)
+side_by_side op f g xs ys = refl
 
 -- and with what was computed of both
 pub with_both : {A B : Type 0} (op : ℕ → ℕ → ℕ) (f : A → ℕ) (r : A × B → ℕ) (xs : List A) (ys : List B)
     → zip2 op (map f xs) (map r (zip2 (λ x y. (x, y)) xs ys)) ≡ map (λ (p : A × B). op (f p.0) (r p)) (zip2 (λ x y. (x, y)) xs ys)
-with_both op f r [] ys = refl
-with_both op f r (x ∷ xs) [] = refl
-with_both op f r (x ∷ xs) (y ∷ ys) = ap (λ l. op (f x) (r (x, y)) ∷ l) (with_both op f r xs ys)
+with_both op f r (x ∷ xs) (y ∷ ys) = rw (with_both op f r xs ys)
+with_both op f r xs ys = refl
 
 pub ruleset lanes = (mapped, N.zip2_splat, N.zip2_splat_left, N.zip2-map, N.map-map)
 
@@ -33,17 +31,17 @@ each_both both (x ∷ xs) p q = (both x p.0 q.0, each_both both xs p.1 q.1)
 -- two functions that are the same on what lists hold
 pub same_map : {A B : Type 0} {P : A → Type 0} {f g : A → B} → ((x : A) → P x → f x ≡ g x) → (xs : List A) → Each1 P xs → map f xs ≡ map g xs
 same_map same [] each = refl
-same_map same (x ∷ xs) each = ap₂ (λ y ys. y ∷ ys) (same x each.0) (same_map same xs each.1)
+same_map same (x ∷ xs) each = rw (same x each.0, same_map same xs each.1)
 
 same_prefix : {A : Type 0} {P : A → Type 0} {p q : A → Bool} → ((x : A) → P x → p x ≡ q x) → (xs : List A) → Each1 P xs
     → N.prefix_len p xs ≡ N.prefix_len q xs
 same_prefix same [] each = refl
-same_prefix same (x ∷ xs) each = ap₂ (λ b n. cond b (1 + n) 0) (same x each.0) (same_prefix same xs each.1)
+same_prefix same (x ∷ xs) each = rw (same x each.0, same_prefix same xs each.1)
 
 -- the masks of two tests that are the same on the lanes
 pub mask_of : {A : Type 0} {P : A → Type 0} {p q : A → Bool} → ((x : A) → P x → p x ≡ q x) → (xs : List A) → length xs ≤ 64 → Each1 P xs
     → mask_l (map p xs) % 2 ^ 64 ≡ mask_l (map q xs)
-mask_of same xs few each = N.mask_l-mod _ 64 (grind (arith, N.length-map)) ∙ ap mask_l (same_map same xs each)
+mask_of same xs few each = N.mask_l-mod _ 64 (grind (arith, N.length-map)) ∙ N.ap mask_l (same_map same xs each)
 
 -- so many lanes come before the first that passes
 pub run_of : {A : Type 0} {P : A → Type 0} {q : A → Bool} (p : A → Bool) → ((x : A) → P x → not (p x) ≡ q x) → (xs : List A) {n : ℕ} → length xs ≡ n → n ≤ 64
@@ -68,11 +66,10 @@ mask_small k ms few = let some = N.pow_pos k in grind (arith, N.mask_l-mod ms k)
 
 -- a mask has the bits of its first lanes, and then the others
 mask_parts : (n : ℕ) (ms : List Bool) → mask_l ms ≡ mask_l (take n ms) + 2 ^ n * mask_l (drop n ms)
-mask_parts zero ms = omega arith
-mask_parts (suc n) [] = omega arith
 mask_parts (suc n) (m ∷ ms) =
     let twice : 2 ^ suc n * mask_l (drop n ms) ≡ 2 * (2 ^ n * mask_l (drop n ms)) = rw (N.pow-succ' 2 n) (N.mul_assoc 2 (2 ^ n) _) in
     omega (arith, mask_parts n ms)
+mask_parts n ms = omega arith
 
 -- the lowest bits of a mask are those of the first lanes
 pub first_lanes : (q : ℕ → Bool) (n : ℕ) (us : List ℕ) {mask : ℕ} → mask ≡ mask_l (map q us) → mask % 2 ^ n ≡ mask_l (map q (take n us))
@@ -120,9 +117,9 @@ zeros_after q n us m is zeros fails =
 first_kept : (n m : ℕ) (us : List ℕ) → length us ≡ n + m → Each1 (Fits w16) us
     → zip2 bit_and us (replicate n 65535 ++ replicate m 0) ≡ take n us ++ replicate m 0
 first_kept zero zero [] long fits = refl
-first_kept zero (suc m) (u ∷ us) long fits = ap₂ (λ x xs. x ∷ xs) (N.and_zero_r u) (first_kept zero m us (omega arith) fits.1)
+first_kept zero (suc m) (u ∷ us) long fits = rw (N.and_zero_r u, first_kept zero m us (omega arith) fits.1)
 first_kept (suc n) m (u ∷ us) long fits =
-    ap₂ (λ x xs. x ∷ xs) (N.and_mask u 16 ∙ N.mod-eq_of_lt fits.0.fits) (first_kept n m us (omega arith) fits.1)
+    rw (N.and_mask u 16 ∙ N.mod-eq_of_lt fits.0.fits, first_kept n m us (omega arith) fits.1)
 first_kept n m us long fits = grind arith
 
 -- a row of the table has the bits of so many units

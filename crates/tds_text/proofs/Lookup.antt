@@ -1,7 +1,7 @@
 -- What the tables of places have.
 use Rattle.tds_text.proofs as N
-use N.{Bool, Each1, Fits, List, ap, ap₂, arith, cond, digits_l, drop, flat_map, get_or, high_quad, length, low_quad, map, number_l, refl, sel_l, suc, take}
-use N.{true, w16, zero, zip2, ℕ, [], ◌%◌, ◌&&◌, ◌*◌, ◌++◌, ◌+◌, ◌/◌, ◌<◌, ◌^◌, ◌∙◌, ◌∷◌, ◌≡◌, ◌≤◌}
+use N.{Bool, Each1, Fits, List, arith, cond, digits_l, drop, flat_map, get_or, high_quad, length, low_quad, map, number_l, refl, sel_l, suc, take, true, w16}
+use N.{zip2, ℕ, [], ◌%◌, ◌&&◌, ◌*◌, ◌++◌, ◌+◌, ◌/◌, ◌<◌, ◌^◌, ◌∙◌, ◌∷◌, ◌≡◌, ◌≤◌}
 use Rattle.tds_text.specs.Utf16.{units}
 
 -- ---- bytes that are gathered from lanes by the places of a table
@@ -20,7 +20,7 @@ placed width at (ks ∷ kss) = map (λ k. at + k) ks ++ placed width (at + width
 one_lane : (front lane more ks : List ℕ) → Each1 (λ k. k < length lane) ks
     → map (λ j. get_or (front ++ (lane ++ more)) j 0) (map (λ k. length front + k) ks) ≡ map (λ k. get_or lane k 0) ks
 one_lane front lane more [] each = refl
-one_lane front lane more (k ∷ ks) each = ap₂ (λ x xs. x ∷ xs) (grind (arith, N.get_or-append-add, N.get_or_append_left)) (one_lane front lane more ks each.1)
+one_lane front lane more (k ∷ ks) each = N.ap₂ (λ x xs. x ∷ xs) (grind (arith, N.get_or-append-add, N.get_or_append_left)) (one_lane front lane more ks each.1)
 
 module _ (size : ℕ) (lane places : ℕ → List ℕ) (wide : (u : ℕ) → length (lane u) ≡ size) (inside : (u : ℕ) → Each1 (λ k. k < length (lane u)) (places u)) where
   -- the bytes of lanes after others
@@ -31,7 +31,7 @@ module _ (size : ℕ) (lane places : ℕ → List ℕ) (wide : (u : ℕ) → len
       let later = flat_map lane us ++ more in
       let there : length (front ++ lane u) ≡ length front + size = grind (arith, N.length-append) in
       let rest = rw (N.append_assoc front (lane u) later, there) at (lanes_from (front ++ lane u) us more) in
-      rw (N.append_assoc (lane u) (flat_map lane us) more, N.map-append) (ap₂ (λ xs ys. xs ++ ys) (one_lane front (lane u) later (places u) (inside u)) rest)
+      rw (N.append_assoc (lane u) (flat_map lane us) more, N.map-append) (N.ap₂ (λ xs ys. xs ++ ys) (one_lane front (lane u) later (places u) (inside u)) rest)
 
   -- those of the first lanes, by a row of a table that begins with their places
   pub gathered_text : (text : ℕ → List ℕ) {row xs : List ℕ} (us more rest : List ℕ) → row ≡ placed size 0 (map places us) ++ rest
@@ -42,11 +42,11 @@ module _ (size : ℕ) (lane places : ℕ → List ℕ) (wide : (u : ℕ) → len
 -- the same text of each lane
 pub same_texts : {P : ℕ → Type 0} {f g : ℕ → List ℕ} → ((u : ℕ) → P u → f u ≡ g u) → (us : List ℕ) → Each1 P us → flat_map f us ≡ flat_map g us
 same_texts same [] each = refl
-same_texts same (u ∷ us) each = ap₂ (λ xs ys. xs ++ ys) (same u each.0) (same_texts same us each.1)
+same_texts same (u ∷ us) each = rw (same u each.0, same_texts same us each.1)
 
 -- the bits of a mask
 abbrev pub bits : ℕ → ℕ → List Bool
-bits zero mask = []
+bits N.zero mask = []
 bits (suc n) mask = N.nat_eq (mask % 2) 1 ∷ bits n (mask / 2)
 
 lowest_bit : (b : Bool) (n : ℕ) → (N.nat_eq ((cond b 1 0 + 2 * n) % 2) 1 ≡ b) × ((cond b 1 0 + 2 * n) / 2 ≡ n)
@@ -58,9 +58,7 @@ pub row_begins : (f : Bool → Bool → List ℕ) (width at m : ℕ) (ws ls : Li
 row_begins f width at m [] [] few same = grind arith
 row_begins f width at (suc m) (w ∷ ws) (l ∷ ls) few same =
     let more = row_begins f width (at + width) m ws ls (omega arith) (omega arith) in grind (arith, lowest_bit, N.append_assoc)
-row_begins f width at zero (w ∷ ws) ls few same = grind arith
-row_begins f width at m [] (l ∷ ls) few same = grind arith
-row_begins f width at m (w ∷ ws) [] few same = grind arith
+row_begins f width at m ws ls few same = grind arith
 
 -- where the bytes of a text are in a unit's two: a text of two bytes, or of one
 abbrev pub pair_places : Bool → Bool → List ℕ
@@ -120,10 +118,10 @@ ones_of_two wide long small small' =
 -- lanes that are chosen one by one
 chosen_maps : (m : ℕ → Bool) (f g : ℕ → ℕ) (us : List ℕ) → sel_l (map m us) (map f us) (map g us) ≡ map (λ u. cond (m u) (f u) (g u)) us
 chosen_maps m f g [] = refl
-chosen_maps m f g (u ∷ us) = ap (λ xs. cond (m u) (f u) (g u) ∷ xs) (chosen_maps m f g us)
+chosen_maps m f g (u ∷ us) = rw (chosen_maps m f g us)
 
 pub picked_self : (m : ℕ → Bool) (f : ℕ → ℕ) (us : List ℕ) → sel_l (map m us) (map f us) us ≡ map (λ u. cond (m u) (f u) u) us
-picked_self m f us = ap (sel_l (map m us) (map f us)) (N.sym (N.map-id us)) ∙ chosen_maps m f (λ u. u) us
+picked_self m f us = N.ap (sel_l (map m us) (map f us)) (N.sym (N.map-id us)) ∙ chosen_maps m f (λ u. u) us
 
 pub picked : (m : ℕ → Bool) (g : ℕ → ℕ) (us : List ℕ) (n y : ℕ) → length us ≡ n
     → sel_l (map m us) (N.replicate n y) (map g us) ≡ map (λ u. cond (m u) y (g u)) us
@@ -135,7 +133,6 @@ picked_number m us n y z long = rw (N.splat_is_map us n y long, N.splat_is_map u
 
 -- two bytes are a lane
 pub units_of_bytes : (n : ℕ) (xs : List ℕ) → length xs ≡ 2 * n → Each1 (Fits N.w8) xs → digits_l 65536 n (number_l 256 xs) ≡ units xs
-units_of_bytes zero [] long fits = refl
 units_of_bytes (suc n) (low ∷ high ∷ xs) long fits = let more = units_of_bytes n xs (omega arith) fits.1.1 in
     grind arith
 units_of_bytes n xs long fits = grind arith
@@ -150,7 +147,7 @@ others u = (128 + u / 64 % 64) + (128 + u % 64) * 256
 -- the two bytes of each number that is made of a unit
 lane_bytes : (f : ℕ → ℕ) (n : ℕ) (us : List ℕ) → length us ≡ n → Each1 (λ u. f u < 65536) us
     → digits_l 256 (2 * n) (number_l 65536 (map f us)) ≡ flat_map (λ u. N.low_and_high (f u)) us
-lane_bytes f zero [] long fits = refl
+lane_bytes f N.zero [] long fits = refl
 lane_bytes f (suc n) (u ∷ us) long fits =
     let two : 2 * suc n ≡ suc (suc (2 * n)) = omega arith in
     rw two (grind (arith, lane_bytes f n us (omega arith) fits.1))
@@ -174,12 +171,8 @@ four_each : (a b c d : ℕ) → a < 65536 → b < 65536 → c < 65536 → d < 65
     → take 12 (woven (digits_l 256 16 (number_l 65536 (lead a ∷ others a ∷ lead b ∷ others b ∷ lead c ∷ others c ∷ lead d ∷ others d ∷ []))))
     ≡ N.triples (a ∷ b ∷ c ∷ d ∷ [])
 four_each a b c d sa sb sc sd =
-    let fa = split a sa in
-    let fb = split b sb in
-    let fc = split c sc in
-    let fd = split d sd in
-    ap (λ bs. take 12 (woven bs)) (lane_bytes (λ x. x) 8 (lead a ∷ others a ∷ lead b ∷ others b ∷ lead c ∷ others c ∷ lead d ∷ others d ∷ []) refl
-    (grind arith)) ∙ (cc)
+    N.ap (λ bs. take 12 (woven bs)) (lane_bytes (λ x. x) 8 (lead a ∷ others a ∷ lead b ∷ others b ∷ lead c ∷ others c ∷ lead d ∷ others d ∷ []) refl
+    (grind arith)) ∙ grind (arith, split)
 
 -- eight of them, each lane beside the other
 abbrev pub beside_first : List ℕ → List ℕ → List ℕ

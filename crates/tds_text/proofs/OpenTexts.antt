@@ -41,10 +41,8 @@ begun_front = grind (arith, utf8_front, N.take_all)
 
 -- an odd byte completes no unit
 odd_front : (d : List ℕ) (x : ℕ) → (length (d ++ x ∷ []) % 2 ≡ 0 → ⊥) → utf16_laws.front (d ++ x ∷ []) ≡ utf16_laws.front d
-odd_front [] x odd = refl
-odd_front (low ∷ high ∷ []) x odd = refl
 odd_front (low ∷ high ∷ low' ∷ high' ∷ bytes) x odd = N.ap (λ l. low ∷ high ∷ l) (odd_front (low' ∷ high' ∷ bytes) x (grind arith))
-odd_front bytes x odd = grind arith
+odd_front d x odd = grind arith
 
 -- a byte after which no character ends completes none
 unfit_front : (d : List ℕ) (x : ℕ) → (N.IsUtf8 (d ++ x ∷ []) → ⊥) → utf8_laws.front (d ++ x ∷ []) ≡ utf8_laws.front d
@@ -64,13 +62,17 @@ unfit_front d x unfit =
 pub unfit_adds_none : (c : N.Conversion) (d : List ℕ) (x : ℕ) → N.is_fit c (d ++ x ∷ []) ≡ N.false
     → emit (N.conversion_rest c) (N.conversion_text c) (d ++ x ∷ []) ≡ emit (N.conversion_rest c) (N.conversion_text c) d
 unfit_adds_none N.HexDigits d x unfit = cc
-unfit_adds_none N.Utf16Text d x unfit =
-    let same = odd_front d x (grind arith) in
-    rw (emit-front utf16_laws.fronts, emit-front utf16_laws.fronts, same)
+unfit_adds_none N.Utf16Text d x unfit = cc (
+  N.JoiningLemmas.emit-front utf16_laws.fronts (d ++ x ∷ []),
+  N.JoiningLemmas.emit-front utf16_laws.fronts d,
+  odd_front d x (grind arith),
+)
 unfit_adds_none N.Windows1252Text d x unfit = cc
-unfit_adds_none N.Utf8Text d x unfit =
-    let same = unfit_front d x (grind (arith, N.is_utf8-from_IsUtf8)) in
-    rw (emit-front utf8_laws.fronts, emit-front utf8_laws.fronts, same)
+unfit_adds_none N.Utf8Text d x unfit = cc (
+  N.JoiningLemmas.emit-front utf8_laws.fronts (d ++ x ∷ []),
+  N.JoiningLemmas.emit-front utf8_laws.fronts d,
+  unfit_front d x (grind (arith, N.is_utf8-from_IsUtf8)),
+)
 
 -- a piece grows the open field by the text of what was withheld and the piece
 pub open_grows : (c : N.Conversion) (d e : List ℕ) → N.BeginsData c (d ++ e)

@@ -56,19 +56,13 @@ record Seam (a b : List ℕ) : Type 0 where
   few : length (rest a) ≤ 3
 
 seam : (a b : List ℕ) → Seam a b
-seam [] b = grind arith
-seam (odd ∷ []) b = grind arith
-seam (low ∷ high ∷ []) b = grind arith
-seam (low ∷ high ∷ odd ∷ []) b = grind arith
 seam (low ∷ high ∷ low' ∷ high' ∷ bytes) b = let more = seam (low' ∷ high' ∷ bytes) b in grind arith
+seam a b = grind arith
 
 -- no pair lies across the end of the front, where no low surrogate comes first after a rest that begins with a high one
 Apart-front : (a vs : List ℕ) → (starts_high (units (rest a)) ≡ N.true → starts_low vs ≡ false) → Apart (units (front a)) vs
-Apart-front [] vs f = tt
-Apart-front (odd ∷ []) vs f = tt
-Apart-front (low ∷ high ∷ []) vs f = grind arith
-Apart-front (low ∷ high ∷ odd ∷ []) vs f = grind arith
 Apart-front (low ∷ high ∷ low' ∷ high' ∷ bytes) vs f = grind (arith, Apart-front (low' ∷ high' ∷ bytes) vs f)
+Apart-front a vs f = grind arith
 
 -- the text of units is that of both parts where no pair lies across
 texts : (us vs : List ℕ) → Apart us vs → N.doubled (N.encode_utf8_all (N.utf16_lossy_chars (us ++ vs))) ≡ N.doubled (N.encode_utf8_all (N.utf16_lossy_chars us))

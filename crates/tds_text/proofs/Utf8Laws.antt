@@ -114,10 +114,9 @@ begun_rest a b =
     go (c ∷ cs) valid e = elim (N.cases_lt (length (rest a)) (length (encode_utf8 c))) [
       | inl less ↦ grind (arith, N.encode_utf8_all, N.and_parts, valid)
       | inr more ↦
-          let k = length (encode_utf8 c) in
-          let found : take k (rest a) ≡ encode_utf8 c =
-          rw (← N.take-append-le k (rest a) b.0 more, ← e) (grind (arith, N.take_at, N.encode_utf8_all)) in
-          absurd (no_text a k (omega (arith, N.length-encode c, N.len_utf8_bounds c)) more
+          let found : take (length (encode_utf8 c)) (rest a) ≡ encode_utf8 c =
+          rw (← N.take-append-le _ (rest a) b.0 more, ← e) (grind (arith, N.take_at, N.encode_utf8_all)) in
+          absurd (no_text a (length (encode_utf8 c)) (omega (arith, N.length-encode c, N.len_utf8_bounds c)) more
           (grind (arith, N.IsUtf8-encode, N.and_parts, valid)))
     ]
 

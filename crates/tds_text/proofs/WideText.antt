@@ -30,9 +30,8 @@ pub each_taken : (P : ℕ → Type 0) (n : ℕ) (us : List ℕ) → Each1 P us �
 each_taken P = N.Each1-chunk P 0
 
 each_left : (P : ℕ → Type 0) (n : ℕ) (us : List ℕ) → Each1 P us → Each1 P (drop n us)
-each_left P zero us each = each
-each_left P (suc n) [] each = tt
 each_left P (suc n) (u ∷ us) each = each_left P n us each.1
+each_left P n us each = grind arith
 
 -- the first and the other units
 split_lanes : (lane : ℕ → List ℕ) (n : ℕ) (us : List ℕ) → flat_map lane us ≡ flat_map lane (take n us) ++ flat_map lane (drop n us)
@@ -135,16 +134,13 @@ module _ (us low old new : List ℕ) (at n : ℕ) (fits : Each1 (Fits w16) us) (
 
 -- the low bytes of characters of ASCII are their text
 plain_texts : (n : ℕ) (ys : List ℕ) → Each1 (λ u. is_wide u ≡ false) (take n (units ys)) → take n (evens ys) ≡ units_text (take n (units ys))
-plain_texts zero ys each = refl
-plain_texts n [] each = grind arith
-plain_texts n (low ∷ []) each = grind arith
 plain_texts (suc n) (low ∷ high ∷ ys) each = grind (arith, plain_text (low + 256 * high) each.0, plain_texts n ys each.1)
+plain_texts n ys each = grind arith
 
 -- two bytes are a unit
 pub length-units : (xs : List ℕ) → length (units xs) ≡ length xs / 2
-length-units [] = grind arith
-length-units (low ∷ []) = grind arith
 length-units (low ∷ high ∷ xs) = let more = length-units xs in grind arith
+length-units xs = grind arith
 
 -- the bytes at every second place, so many from one on
 abbrev every_second : ℕ → List ℕ → ℕ → List ℕ
@@ -153,27 +149,24 @@ every_second (suc k) zs i = N.slice_index_or zs i 0 ∷ every_second k zs (suc (
 
 later_places : (k a b : ℕ) (zs : List ℕ) (i : ℕ) → every_second k (a ∷ b ∷ zs) (suc (suc i)) ≡ every_second k zs i
 later_places zero a b zs i = refl
-later_places (suc k) a b zs i = ap (λ l. N.slice_index_or zs i 0 ∷ l) (later_places k a b zs (suc (suc i)))
+later_places (suc k) a b zs i = rw (later_places k a b zs (suc (suc i)))
 
 pub evens_at : (k : ℕ) (zs : List ℕ) → length zs ≡ 2 * k → every_second k zs 0 ≡ evens zs
-evens_at zero [] long = refl
-evens_at (suc k) (a ∷ b ∷ zs) long = ap (λ l. a ∷ l) (later_places k a b zs 0 ∙ evens_at k zs (omega arith))
+evens_at (suc k) (a ∷ b ∷ zs) long = rw (later_places k a b zs 0, evens_at k zs (omega arith))
 evens_at k zs long = grind arith
 
 -- units below 128 whose low bytes are no quotes are characters of ASCII and no quotes
 plain_units : (ys : List ℕ) → Each1 (λ u. is_wide u ≡ false) (units ys) ↔ (Each1 (λ u. u < 128) (units ys) × Each1 (λ b. N.is_unquoted b ≡ true) (evens ys))
-plain_units [] = (λ _. (tt, tt), λ _. tt)
-plain_units (low ∷ []) = (λ _. (tt, tt), λ _. tt)
 plain_units (low ∷ high ∷ ys) =
     let more = plain_units ys in (
       λ plain. let here : (low + 256 * high < 128) × (N.is_unquoted low ≡ true) = grind (arith, plain.0) in
           let later = more.0 plain.1 in ((here.0, later.0), (here.1, later.1)),
       λ parts. (grind (arith, parts.0.0, parts.1.0), more.1 (parts.0.1, parts.1.1)),
     )
+plain_units ys = (λ _. (tt, tt), λ _. tt)
 
 units-append : (k : ℕ) (xs ys : List ℕ) → length xs ≡ 2 * k → units (xs ++ ys) ≡ units xs ++ units ys
-units-append zero [] ys long = refl
-units-append (suc k) (low ∷ high ∷ xs) ys long = ap (λ us. (low + 256 * high) ∷ us) (units-append k xs ys (omega arith))
+units-append (suc k) (low ∷ high ∷ xs) ys long = rw (units-append k xs ys (omega arith))
 units-append k xs ys long = grind arith
 
 each-append : (P : ℕ → Type 0) (xs ys : List ℕ) → Each1 P (xs ++ ys) ↔ (Each1 P xs × Each1 P ys)
