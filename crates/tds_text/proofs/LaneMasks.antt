@@ -128,8 +128,9 @@ first_row = grind arith
 
 pub first_of : (n : ℕ) (us : List ℕ) {row : List ℕ} → length us ≡ 8 → n ≤ 8 → Each1 (Fits w16) us → row ≡ N.get_or N.FIRST n []
     → (take n (zip2 bit_and us row) ≡ take n us) × (drop n (zip2 bit_and us row) ≡ replicate (8 - n) 0)
-first_of n us long few fits is = rw (is, first_row n (omega arith), first_kept n (8 - n) us (omega arith) fits)
-    (N.take_at (take n us) _ n (N.length-take-le n us (omega arith)), N.drop_at (take n us) _ n (N.length-take-le n us (omega arith)))
+first_of n us long few fits is =
+    let size = N.length-take-le n us (omega arith) in
+    rw (is, first_row n (omega arith), first_kept n (8 - n) us (omega arith) fits) (N.take_at (take n us) _ n size, N.drop_at (take n us) _ n size)
 
 -- at most eight lanes come before the first that passes
 pub first_few : (q : ℕ → Bool) (us : List ℕ) {mask : ℕ} → length us ≡ 8 → mask ≡ mask_l (map q us) → N.first_set mask 8 ≤ 8

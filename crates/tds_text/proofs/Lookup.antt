@@ -17,48 +17,18 @@ placed width at [] = []
 placed width at (ks ∷ kss) = map (λ k. at + k) ks ++ placed width (at + width) kss
 
 -- the bytes of a lane between others
-one_lane : (front lane more ks : List ℕ) → Each1 (λ k. k < length lane) ks
+pub one_lane : (front lane more ks : List ℕ) → Each1 (λ k. k < length lane) ks
     → map (λ j. get_or (front ++ (lane ++ more)) j 0) (map (λ k. length front + k) ks) ≡ map (λ k. get_or lane k 0) ks
 one_lane front lane more [] each = refl
 one_lane front lane more (k ∷ ks) each = N.ap₂ (λ x xs. x ∷ xs) (grind (arith, N.get_or-append-add, N.get_or_append_left)) (one_lane front lane more ks each.1)
-
-module _ (size : ℕ) (lane places : ℕ → List ℕ) (wide : (u : ℕ) → length (lane u) ≡ size) (inside : (u : ℕ) → Each1 (λ k. k < length (lane u)) (places u)) where
-  -- the bytes of lanes after others
-  lanes_from : (front us more : List ℕ) → map (λ j. get_or (front ++ (flat_map lane us ++ more)) j 0) (placed size (length front) (map places us))
-      ≡ flat_map (λ u. map (λ k. get_or (lane u) k 0) (places u)) us
-  lanes_from front [] more = refl
-  lanes_from front (u ∷ us) more =
-      let later = flat_map lane us ++ more in
-      let there : length (front ++ lane u) ≡ length front + size = grind (arith, N.length-append) in
-      let rest = rw (N.append_assoc front (lane u) later, there) at (lanes_from (front ++ lane u) us more) in
-      rw (N.append_assoc (lane u) (flat_map lane us) more, N.map-append) (N.ap₂ (λ xs ys. xs ++ ys) (one_lane front (lane u) later (places u) (inside u)) rest)
-
-  -- those of the first lanes, by a row of a table that begins with their places
-  pub gathered_text : (text : ℕ → List ℕ) {row xs : List ℕ} (us more rest : List ℕ) → row ≡ placed size 0 (map places us) ++ rest
-      → xs ≡ flat_map lane us ++ more → flat_map (λ u. map (λ k. get_or (lane u) k 0) (places u)) us ≡ flat_map text us
-      → take (length (flat_map text us)) (map (λ j. get_or xs j 0) row) ≡ flat_map text us
-  gathered_text text us more rest row_is xs_is same = rw (row_is, xs_is, N.map-append, (lanes_from [] us more ∙ same)) (N.take-append_seam (flat_map text us) _)
-
--- the same text of each lane
-pub same_texts : {P : ℕ → Type 0} {f g : ℕ → List ℕ} → ((u : ℕ) → P u → f u ≡ g u) → (us : List ℕ) → Each1 P us → flat_map f us ≡ flat_map g us
-same_texts same [] each = refl
-same_texts same (u ∷ us) each = rw (same u each.0, same_texts same us each.1)
 
 -- the bits of a mask
 abbrev pub bits : ℕ → ℕ → List Bool
 bits N.zero mask = []
 bits (suc n) mask = N.nat_eq (mask % 2) 1 ∷ bits n (mask / 2)
 
-lowest_bit : (b : Bool) (n : ℕ) → (N.nat_eq ((cond b 1 0 + 2 * n) % 2) 1 ≡ b) × ((cond b 1 0 + 2 * n) / 2 ≡ n)
+pub lowest_bit : (b : Bool) (n : ℕ) → (N.nat_eq ((cond b 1 0 + 2 * n) % 2) 1 ≡ b) × ((cond b 1 0 + 2 * n) / 2 ≡ n)
 lowest_bit = grind arith
-
--- a row for two masks of some lanes begins with the places of these lanes
-pub row_begins : (f : Bool → Bool → List ℕ) (width at m : ℕ) (ws ls : List Bool) → length ws ≤ m → length ls ≡ length ws
-    → (rest : List ℕ) × (placed width at (zip2 f (bits m (N.mask_l ws)) (bits m (N.mask_l ls))) ≡ placed width at (zip2 f ws ls) ++ rest)
-row_begins f width at m [] [] few same = grind arith
-row_begins f width at (suc m) (w ∷ ws) (l ∷ ls) few same =
-    let more = row_begins f width (at + width) m ws ls (omega arith) (omega arith) in grind (arith, lowest_bit, N.append_assoc)
-row_begins f width at m ws ls few same = grind arith
 
 -- where the bytes of a text are in a unit's two: a text of two bytes, or of one
 abbrev pub pair_places : Bool → Bool → List ℕ
@@ -87,17 +57,18 @@ pub record IsRow (row begins : List ℕ) : Type 0 where
 abbrev is_row : List ℕ → List ℕ → Bool
 is_row row begins = (N.nat_eq (length row) 16 && all_below 16 row) && N.bytes_eq row (begins ++ drop (length begins) row)
 
-tested : (row begins : List ℕ) → is_row row begins ≡ true → IsRow row begins
-tested row begins h = grind (arith, N.and_parts, each_below, N.bytes_eq-Decides)
+-- what holds of each row by the test
+row_at : (table begins : ℕ → List ℕ) (n i : ℕ) → N.agree_below (λ i. is_row (table i) (begins i)) (λ _. true) n ≡ true → i < n
+    → IsRow (table i) (begins i)
+row_at table begins n i all small =
+    let row = N.agree_below_at (λ i. is_row (table i) (begins i)) (λ _. true) n i all small in
+    grind (arith, N.and_parts, each_below, N.bytes_eq-Decides)
 
 pub pair_row : (mask : ℕ) → mask < 256 → IsRow (get_or N.PAIRS mask []) (placed 2 0 (zip2 pair_places (bits 8 mask) (bits 8 0)))
-pair_row mask small =
-    tested _ _ (N.agree_below_at (λ i. is_row (get_or N.PAIRS i []) (placed 2 0 (zip2 pair_places (bits 8 i) (bits 8 0)))) (λ _. true) 256 mask refl small)
+pair_row mask = row_at (λ i. get_or N.PAIRS i []) (λ i. placed 2 0 (zip2 pair_places (bits 8 i) (bits 8 0))) 256 mask refl
 
 quad_at : (i : ℕ) → i < 256 → IsRow (get_or N.QUADS i []) (placed 4 0 (zip2 quad_places (bits 4 (i % 16)) (bits 4 (i / 16))))
-quad_at i small =
-    tested _ _ (N.agree_below_at (λ i. is_row (get_or N.QUADS i []) (placed 4 0 (zip2 quad_places (bits 4 (i % 16)) (bits 4 (i / 16))))) (λ _. true) 256 i
-    refl small)
+quad_at i = row_at (λ i. get_or N.QUADS i []) (λ i. placed 4 0 (zip2 quad_places (bits 4 (i % 16)) (bits 4 (i / 16)))) 256 i refl
 
 pub quad_row : (wide long : ℕ) → wide < 16 → long < 16
     → IsRow (get_or N.QUADS (wide + 16 * long) []) (placed 4 0 (zip2 quad_places (bits 4 wide) (bits 4 long)))

@@ -60,7 +60,7 @@ module _ {bytes to : List ℕ} (used made : ℕ) (x : Converts bytes to used mad
     begun = ([], grind (arith, N.take_all, N.append-nil, x.whole));
     within = x.within;
     left = omega arith;
-    short = omega (arith, x.room);
+    short = omega arith;
     text = grind (arith, N.take_all, N.utf8_valid_len-IsUtf8, N.drop_of_length-le);
     keeps = grind (arith, N.take_all, N.utf8_valid_len-IsUtf8, N.drop_of_length-le);
   }
@@ -88,10 +88,10 @@ module _ {bytes to : List ℕ} (used made : ℕ) (x : Converts bytes to used mad
       let split = N.take-append-drop used bytes in
       let size = N.length-drop used bytes in
       record {
-        begun = rw split at ((whole_begins (take used bytes) tail x.whole).1 (scan.begins (omega (arith, scan.most))));
-        within = omega (arith, scan.order, scan.most, x.within);
-        left = omega (arith, scan.short, x.within);
-        short = omega (arith, x.room, scan.order, scan.most, x.within);
+        begun = rw split at ((whole_begins (take used bytes) tail x.whole).1 (scan.begins (omega arith)));
+        within = omega arith;
+        left = omega arith;
+        short = omega arith;
         text = rw (written, x.text, ← emits) (rw split at (sym (whole_emits (take used bytes) tail x.whole)));
         keeps = rw (← N.drop-drop whole used bytes, scan.rest) (rw split at (sym (whole_keeps (take used bytes) tail x.whole)));
       }

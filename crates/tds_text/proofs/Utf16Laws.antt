@@ -64,13 +64,15 @@ Apart-front : (a vs : List ℕ) → (starts_high (units (rest a)) ≡ N.true →
 Apart-front (low ∷ high ∷ low' ∷ high' ∷ bytes) vs f = grind (arith, Apart-front (low' ∷ high' ∷ bytes) vs f)
 Apart-front a vs f = grind arith
 
--- the text of units is that of both parts where no pair lies across
-texts : (us vs : List ℕ) → Apart us vs → N.doubled (N.encode_utf8_all (N.utf16_lossy_chars (us ++ vs))) ≡ N.doubled (N.encode_utf8_all (N.utf16_lossy_chars us))
-    ++ N.doubled (N.encode_utf8_all (N.utf16_lossy_chars vs))
-texts = grind (arith, chars-apart, N.map-append, N.encodes-append, N.JoiningLemmas.doubled-append)
+-- the text of units
+abbrev spelled : List ℕ → List ℕ
+spelled us = N.doubled (N.encode_utf8_all (N.utf16_lossy_chars us))
 
 text-front : (a b : List ℕ) → Apart (units (front a)) (units b) → text (front a ++ b) ≡ text (front a) ++ text b
-text-front a b h = N.ap (λ us. N.doubled (N.encode_utf8_all (N.utf16_lossy_chars us))) (seam a b).units_are ∙ texts (units (front a)) (units b) h
+text-front a b h = N.ap spelled (seam a b).units_are ∙ texts (units (front a)) (units b) h
+  where
+    texts : (us vs : List ℕ) → Apart us vs → spelled (us ++ vs) ≡ spelled us ++ spelled vs
+    texts = grind (arith, chars-apart, N.map-append, N.encodes-append, N.JoiningLemmas.doubled-append)
 
 pub fronts : N.JoiningLemmas.HasFronts rest text front
 unfolding starts_low

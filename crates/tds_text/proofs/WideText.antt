@@ -1,10 +1,10 @@
 -- The text of units that are characters of at most three bytes.
 use Rattle.tds_text.proofs as N
-use N.{Each1, Fits, List, ap, arith, chunk, count_ones, drop, evens, false, flat_map, get_or, is_long, is_wide, length, map, mask_l, quad_bytes, refl, suc}
+use N.{Bool, Each1, Fits, List, arith, chunk, count_ones, drop, evens, false, flat_map, get_or, is_long, is_wide, length, map, mask_l, quad_bytes, refl, suc}
 use N.{take, triples, true, units_text, w16, zero, ℕ, [], ◌%◌, ◌*◌, ◌++◌, ◌+◌, ◌-◌, ◌/◌, ◌<◌, ◌^◌, ◌↔◌, ◌∙◌, ◌∷◌, ◌≡◌, ◌≤◌}
 use N.Characters.{doubled_character, of_one, of_three, of_two}
 use N.JoiningLemmas.{Leads-none, Leads-trans}
-use N.Lookup.{IsRow, bits, placed, same_texts}
+use N.Lookup.{IsRow, bits, lowest_bit, placed}
 use Rattle.tds_text.specs.Utf16.{units, rest, text}
 
 plain_text : (u : ℕ) → is_wide u ≡ false → N.unit_text u ≡ u ∷ []
@@ -37,16 +37,48 @@ each_left P n us each = grind arith
 split_lanes : (lane : ℕ → List ℕ) (n : ℕ) (us : List ℕ) → flat_map lane us ≡ flat_map lane (take n us) ++ flat_map lane (drop n us)
 split_lanes lane n us = N.sym (grind (arith, N.take-append-drop)) ∙ N.flat_map-append lane (take n us) (drop n us)
 
--- the text of units is gathered from their bytes by a row for their masks
-row_taken : (width m : ℕ) (lane : ℕ → List ℕ) (f : N.Bool → N.Bool → List ℕ) → ((u : ℕ) → length (lane u) ≡ width)
-    → ((u : ℕ) → Each1 (λ k. k < length (lane u)) (f (is_wide u) (is_long u))) → (us more : List ℕ) {row xs : List ℕ} {wide long : ℕ}
-    → IsRow row (placed width 0 (N.zip2 f (bits m wide) (bits m long))) → length us ≤ m → xs ≡ flat_map lane us ++ more
-    → wide ≡ mask_l (map is_wide us) → long ≡ mask_l (map is_long us) → Each1 (λ u. u < 65536) us
-    → flat_map (λ u. map (λ k. get_or (lane u) k 0) (f (is_wide u) (is_long u))) us ≡ units_text us
+-- The bytes of the unit at the places for it are its text.
+record IsLane (size : ℕ) (lane : ℕ → List ℕ) (places : Bool → Bool → List ℕ) (u : ℕ) : Type 0 where
+  wide : length (lane u) ≡ size
+  inside : Each1 (λ k. k < length (lane u)) (places (is_wide u) (is_long u))
+  text : map (λ k. get_or (lane u) k 0) (places (is_wide u) (is_long u)) ≡ N.unit_text u
+
+-- their text is gathered from the bytes of units after others, by their masks
+gathered : (size : ℕ) (lane : ℕ → List ℕ) (places : Bool → Bool → List ℕ) (m : ℕ) (front us more : List ℕ) → length us ≤ m
+    → Each1 (IsLane size lane places) us → (rest : List ℕ) × (map (λ j. get_or (front ++ (flat_map lane us ++ more)) j 0)
+    (placed size (length front) (N.zip2 places (bits m (mask_l (map is_wide us))) (bits m (mask_l (map is_long us))))) ≡ units_text us ++ rest)
+gathered size lane places m front [] more few each = (_, refl)
+gathered size lane places (suc m) front (u ∷ us) more few each =
+    let wide = lowest_bit (is_wide u) (mask_l (map is_wide us)) in
+    let long = lowest_bit (is_long u) (mask_l (map is_long us)) in
+    let later = flat_map lane us ++ more in
+    let there : length (front ++ lane u) ≡ length front + size = grind (arith, N.length-append, each.0) in
+    let rest = gathered size lane places m (front ++ lane u) us more (omega arith) each.1 in
+    let others = rw (N.append_assoc front (lane u) later, there) at rest.1 in (
+      rest.0,
+      rw (
+        wide.0,
+        wide.1,
+        long.0,
+        long.1,
+        N.append_assoc (lane u) (flat_map lane us) more,
+        N.map-append,
+        N.Lookup.one_lane front (lane u) later _ each.0.inside,
+        each.0.text,
+        others,
+        N.append_assoc,
+      ),
+    )
+gathered size lane places m front us more few each = absurd (omega arith)
+
+row_taken : (size m : ℕ) (lane : ℕ → List ℕ) (places : Bool → Bool → List ℕ) (us more : List ℕ) {row xs : List ℕ} {wide long : ℕ}
+    → IsRow row (placed size 0 (N.zip2 places (bits m wide) (bits m long))) → length us ≤ m → xs ≡ flat_map lane us ++ more
+    → wide ≡ mask_l (map is_wide us) → long ≡ mask_l (map is_long us) → Each1 (λ u. u < 65536) us → Each1 (IsLane size lane places) us
     → take (length us + (count_ones wide + count_ones long)) (map (λ j. get_or xs j 0) row) ≡ units_text us
-row_taken width m lane f same inside us more {row} {wide} {long} is_row few is wide_is long_is range texts =
-    let begins = N.Lookup.row_begins f width 0 m (map is_wide us) (map is_long us) (grind (arith, N.length-map)) (grind (arith, N.length-map)) in
-    rw (← text_size us range wide_is long_is) (grind (arith, N.Lookup.gathered_text, N.zip2-map, N.append_assoc, placed))
+row_taken size m lane places us more is_row few is wide_is long_is range each =
+    let found = gathered size lane places m [] us more few each in
+    let begins = rw (wide_is, long_is) at is_row.is in
+    rw (← text_size us range wide_is long_is, is, begins, N.map-append, found.1, N.append_assoc) (N.take-append_seam (units_text us) _)
 
 -- that of short characters from the bytes of eight
 pub pairs_taken : (us : List ℕ) (n : ℕ) {xs : List ℕ} {wide : ℕ} → length us ≡ 8 → n ≤ 8 → Each1 (Fits w16) us → xs ≡ flat_map N.pair_bytes us
@@ -56,18 +88,19 @@ pairs_taken us n {wide} eight few fits bytes is short =
     let vs = take n us in
     let counted : length vs ≡ n = N.length-take-le n us (omega arith) in
     let size : length vs + (count_ones wide + count_ones 0) ≡ n + count_ones wide = omega (arith, N.ones-mask_l is_long []) in
-    rw size at (row_taken 2 8 N.pair_bytes N.Lookup.pair_places (λ u. refl) (grind arith) vs (flat_map N.pair_bytes (drop n us))
+    rw size at (row_taken 2 8 N.pair_bytes N.Lookup.pair_places vs (flat_map N.pair_bytes (drop n us))
     (N.Lookup.pair_row wide (N.LaneMasks.first_mask is_wide us n eight few is).0)
     (omega arith) (bytes ∙ split_lanes N.pair_bytes n us) is (N.sym (N.LaneMasks.none_set is_long vs short)) (unit_range vs (each_taken (Fits w16) n us fits))
-    (same_texts (grind (arith, of_one, of_two)) vs short))
+    (N.Each1-weaker _ _ (λ u low. record { wide = refl; inside = grind arith; text = grind (arith, of_one, of_two) }) vs short))
 
 -- and that of any from the bytes of four
 pub quads_taken : (us more : List ℕ) {xs : List ℕ} {wide long : ℕ} → length us ≤ 4 → wide < 16 → long < 16 → xs ≡ flat_map quad_bytes us ++ more
     → wide ≡ mask_l (map is_wide us) → long ≡ mask_l (map is_long us) → Each1 (λ u. u < 65536) us
     → take (length us + count_ones (wide + 16 * long)) (map (λ j. get_or xs j 0) (get_or N.QUADS (wide + 16 * long) [])) ≡ units_text us
 quads_taken us more {wide} {long} few small small' is wide_is long_is range =
-    rw (← (N.Lookup.ones_of_two wide long small small').0) at (row_taken 4 4 quad_bytes N.Lookup.quad_places (λ u. refl) (grind arith) us more
-    (N.Lookup.quad_row wide long small small') few is wide_is long_is range (same_texts (grind (arith, of_one, of_two, of_three, doubled_character)) us range))
+    rw (← (N.Lookup.ones_of_two wide long small small').0) at (row_taken 4 4 quad_bytes N.Lookup.quad_places us more
+    (N.Lookup.quad_row wide long small small') few is wide_is long_is range
+    (N.Each1-weaker _ _ (λ u low. record { wide = refl; inside = grind arith; text = grind (arith, of_one, of_two, of_three, doubled_character) }) us range))
 
 take_both : (n m : ℕ) (us : List ℕ) → take n (take m us) ≡ take m (take n us)
 take_both = grind (arith, N.cases_lt, N.take-take, N.take_all, N.length-take)
@@ -191,7 +224,7 @@ plain_added ys old new kept {low = low} {at} n w few within is same none low_is 
     let plain = rw (same, is) at (each_taken _ n kept none) in record {
       most = omega arith;
       written = rw (N.take-take n w low few, low_is) at (N.Characters.front_written old new _ at n w few within written)
-          ∙ ap (λ l. take at old ++ l) (plain_texts n ys plain);
+          ∙ N.ap (λ l. take at old ++ l) (plain_texts n ys plain);
       single = N.Each1-weaker _ _ (grind arith) _ plain;
     }
 
@@ -245,7 +278,7 @@ plain_more {bytes} {old} {new} {at = at} room same plain low_is written may =
     let two = two_chunks 16 16 at bytes in
     record {
       before = all_more 16 (omega arith) (plain_added (chunk at 32 bytes) old new _ 16 16 (omega arith) (omega arith) refl refl (rw two at plain)
-          (low_is ∙ ap evens two) written) may.before;
+          (low_is ∙ N.ap evens two) written) may.before;
       more = room;
       within = may.within;
       room = omega arith;

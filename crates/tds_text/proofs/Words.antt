@@ -6,7 +6,7 @@ pub use Rattle.std.proofs.Common.{encode_utf8_all, suc, map, get_or, w8, w16, Fi
 pub use Rattle.std.proofs.Common.{◌⊎◌, ◌*◌, length-take, ◌&&◌, eqb, leb, bit_or, unwrap_or, ⊎_elim, nat_lt, nat_eq, rules, bit_and}
 pub use Rattle.std.proofs.Math.ListN.{drop_of_length-le}
 pub use Rattle.std.proofs.Math.Seq.{take-append-add, drop-append-add, take-append_seam}
-pub use Rattle.std.proofs.lemmas.Bool.{cond_both, or_parts, cases_lt, agree_below_at, and_right, and_parts, cases_Bool}
+pub use Rattle.std.proofs.lemmas.Bool.{cond_both, or_parts, cases_lt, agree_below, agree_below_at, and_right, and_parts, cases_Bool}
 pub use Rattle.std.proofs.lemmas.Bool.Decides.{nat_tests}
 pub use Rattle.std.proofs.lemmas.Grind.{flat_map-append, common_steps}
 pub use Rattle.std.proofs.lemmas.List.{take-append-le, nil_from_length, map-id, take-append-drop, take-take, take_at, drop-append-le, drop-take, length-map}
