@@ -155,7 +155,7 @@ beside_second ls os = map (λ k. get_or (ls ++ os) k 0) (4 ∷ 12 ∷ 5 ∷ 13 �
 pub three_each : (us ls os : List ℕ) → length us ≡ 8 → Each1 (Fits w16) us → ls ≡ map lead us → os ≡ map others us
     → (take 12 (woven (digits_l 256 16 (number_l 65536 (beside_first ls os)))) ≡ take 12 (N.triples us))
     × (take 12 (woven (digits_l 256 16 (number_l 65536 (beside_second ls os)))) ≡ take 12 (drop 12 (N.triples us)))
-three_each (a ∷ b ∷ c ∷ d ∷ e ∷ f ∷ g ∷ h ∷ []) ls os long (fa, (fb, (fc, (fd, (fe, (ff, (fg, (fh, _)))))))) is_lead is_others = grind (arith, four_each)
+three_each (a ∷ b ∷ c ∷ d ∷ e ∷ f ∷ g ∷ h ∷ []) ls os long fits is_lead is_others = grind (arith, four_each)
 three_each us ls os long fits is_lead is_others = grind arith
 
 -- the bytes of four characters, four each
@@ -169,7 +169,7 @@ quad_each a b c d sa sb sc sd = lane_bytes (λ x. x) 8
 pub quad_lanes : (us ls hs : List ℕ) → length us ≡ 8 → Each1 (Fits w16) us → ls ≡ map low_quad us → hs ≡ map high_quad us
     → (digits_l 256 16 (number_l 65536 (beside_first ls hs)) ≡ flat_map N.quad_bytes (take 4 us))
     × (digits_l 256 16 (number_l 65536 (beside_second ls hs)) ≡ flat_map N.quad_bytes (drop 4 us))
-quad_lanes (a ∷ b ∷ c ∷ d ∷ e ∷ f ∷ g ∷ h ∷ []) ls hs long (fa, (fb, (fc, (fd, (fe, (ff, (fg, (fh, _)))))))) is_low is_high =
+quad_lanes (a ∷ b ∷ c ∷ d ∷ e ∷ f ∷ g ∷ h ∷ []) ls hs long fits is_low is_high =
     rw (is_low, is_high) (grind (arith, quad_each))
 quad_lanes us ls hs long fits is_low is_high = grind arith
 

@@ -79,7 +79,7 @@ plain_text (b ∷ bytes) plain = N.SingleLaws.windows_1252-append (b ∷ []) byt
 -- those that were found among the next 32
 pub wide_lanes : (bytes : List ℕ) (at n : ℕ) → n ≤ 32 → n ≡ prefix_len is_plain (chunk at 32 bytes)
     → take n (chunk at 32 bytes) ≡ windows_1252.text (take n (drop at bytes))
-wide_lanes bytes at n few e = lanes_itself N.SingleLaws.windows_1252_bytewise is_plain plain_itself 32 bytes at n few e
+wide_lanes = lanes_itself N.SingleLaws.windows_1252_bytewise is_plain plain_itself 32
 
 -- ---- bytes of ASCII without a quote
 
@@ -121,4 +121,4 @@ plain_both (b ∷ xs) ys first second = (first.0, plain_both xs ys first.1 secon
 -- those that were found among the next `w`
 pub unquoted_lanes : (w : ℕ) (bytes : List ℕ) (at n : ℕ) → n ≤ w → n ≡ prefix_len N.is_unquoted (chunk at w bytes)
     → take n (chunk at w bytes) ≡ N.doubled (take n (drop at bytes))
-unquoted_lanes w bytes at n few e = lanes_itself N.JoiningLemmas.doubled_bytewise N.is_unquoted (grind arith) w bytes at n few e
+unquoted_lanes = lanes_itself N.JoiningLemmas.doubled_bytewise N.is_unquoted (grind arith)

@@ -7,20 +7,18 @@ use N.JoiningLemmas.{Leads-none, Leads-trans}
 use N.Lookup.{IsRow, bits, lowest_bit, placed}
 use Rattle.tds_text.specs.Utf16.{units, rest, text}
 
-plain_text : (u : ℕ) → is_wide u ≡ false → N.unit_text u ≡ u ∷ []
-plain_text = grind (arith, of_one)
-
--- how long the text of a unit is, and that of units
-unit_size : (u : ℕ) → u < 65536 → length (N.unit_text u) ≡ 1 + (N.cond (is_wide u) 1 0 + N.cond (is_long u) 1 0)
-unit_size = grind (arith, of_one, of_two, of_three, doubled_character)
-
+-- how long the text of units is
 text_size : (us : List ℕ) {wide long : ℕ} → Each1 (λ u. u < 65536) us → wide ≡ mask_l (map is_wide us) → long ≡ mask_l (map is_long us)
     → length (units_text us) ≡ length us + (count_ones wide + count_ones long)
 text_size us range wide_is long_is = rw (wide_is, long_is, N.ones-mask_l, N.ones-mask_l) (sizes us range)
   where
     sizes : (us : List ℕ) → Each1 (λ u. u < 65536) us → length (units_text us) ≡ length us + (N.count_by is_wide us + N.count_by is_long us)
     sizes [] small = refl
-    sizes (u ∷ us) small = let one = unit_size u small.0 in let more = sizes us small.1 in grind (arith, N.length-append, N.common_steps)
+    sizes (u ∷ us) small =
+        let one : length (N.unit_text u) ≡ 1 + (N.cond (is_wide u) 1 0 + N.cond (is_long u) 1 0) =
+        grind (arith, of_one, of_two, of_three, doubled_character, small.0) in
+        let more = sizes us small.1 in
+        grind (arith, N.length-append, N.common_steps)
 
 -- units are numbers of 16 bits
 unit_range : (us : List ℕ) → Each1 (Fits w16) us → Each1 (λ u. u < 65536) us
@@ -167,7 +165,7 @@ module _ (us low old new : List ℕ) (at n : ℕ) (fits : Each1 (Fits w16) us) (
 
 -- the low bytes of characters of ASCII are their text
 plain_texts : (n : ℕ) (ys : List ℕ) → Each1 (λ u. is_wide u ≡ false) (take n (units ys)) → take n (evens ys) ≡ units_text (take n (units ys))
-plain_texts (suc n) (low ∷ high ∷ ys) each = grind (arith, plain_text (low + 256 * high) each.0, plain_texts n ys each.1)
+plain_texts (suc n) (low ∷ high ∷ ys) each = grind (arith, of_one, each.0, plain_texts n ys each.1)
 plain_texts n ys each = grind arith
 
 -- two bytes are a unit

@@ -1,5 +1,4 @@
 use Rattle.tds_text.proofs as N
-use N.lanes_utf16.first_units.Goals as goal
 
-pub returns-clause-zeros : goal.returns-clause-zeros
+pub returns-clause-zeros : N.lanes_utf16.first_units.Goals.returns-clause-zeros
 returns-clause-zeros c = (N.LaneMasks.first_of _ _ c.fits-units.0 c.requires c.fits-units.1 c.first_bits.ensures).1

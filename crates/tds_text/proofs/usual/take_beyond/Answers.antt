@@ -1,8 +1,7 @@
 use Rattle.tds_text.proofs as N
-use N.usual.take_beyond.Goals as goal
 use N.{◌∙◌, ◌++◌}
 
-pub returns-then-bytes-at-lt224-clause-taken : goal.returns-then-bytes-at-lt224-clause-taken
+pub returns-then-bytes-at-lt224-clause-taken : N.usual.take_beyond.Goals.returns-then-bytes-at-lt224-clause-taken
 returns-then-bytes-at-lt224-clause-taken c =
     c.put_lanes.ensures ∙ N.ap (λ x. N.take c.args.made c.args.to.now ++ x)
     (grind (N.arith, N.LaneMasks.front_alike c.args.bytes.now c.args.source.now c.args.at c.joined_characters-n.result 16))

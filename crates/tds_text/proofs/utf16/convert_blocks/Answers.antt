@@ -1,8 +1,7 @@
 use Rattle.tds_text.proofs as N
 use N.{arith, ◌+◌, ◌≡◌}
-use N.utf16.convert_blocks.Goals as goal
 
-pub loop-at-preserved : goal.loop-at-preserved
+pub loop-at-preserved : N.utf16.convert_blocks.Goals.loop-at-preserved
 loop-at-preserved c =
     let l = c.loop-at in
     let are_plain : c.are_many_plain.result ≡ N.true = grind (arith, c.if-not-are_many_plain.false) in

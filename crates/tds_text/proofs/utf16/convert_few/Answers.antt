@@ -1,8 +1,7 @@
 use Rattle.tds_text.proofs as N
 use N.{[], ◌%◌, ◌*◌, ◌++◌, ◌/◌, ◌∙◌, ◌≡◌}
-use N.utf16.convert_few.Goals as goal
 
-pub returns-clause-text : goal.returns-clause-text
+pub returns-clause-text : N.utf16.convert_few.Goals.returns-clause-text
 returns-clause-text c =
     let bytes = c.args.bytes.now in
     let n = N.length bytes / 2 in
