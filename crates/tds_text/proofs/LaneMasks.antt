@@ -21,6 +21,7 @@ pub with_both : {A B : Type 0} (op : ℕ → ℕ → ℕ) (f : A → ℕ) (r : A
 with_both op f r (x ∷ xs) (y ∷ ys) = rw (with_both op f r xs ys)
 with_both op f r xs ys = refl
 
+-- so what is computed of vectors is one function of each lane
 pub ruleset lanes = (mapped, N.zip2_splat, N.zip2_splat_left, N.zip2-map, N.map-map)
 
 -- what two facts of each lane give

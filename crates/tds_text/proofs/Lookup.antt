@@ -45,7 +45,7 @@ all_below n (k ∷ ks) = N.nat_lt k n && all_below n ks
 
 each_below : (n : ℕ) (ks : List ℕ) → all_below n ks ≡ true → Each1 (λ k. k < n) ks
 each_below n [] all = tt
-each_below n (k ∷ ks) all = let both = N.and_parts (N.nat_lt k n) (all_below n ks) all in (grind arith, each_below n ks both.1)
+each_below n (k ∷ ks) all = grind (arith, N.and_parts, each_below n ks)
 
 -- A row of a table has 16 places in 16 bytes, and begins with these.
 pub record IsRow (row begins : List ℕ) : Type 0 where

@@ -43,9 +43,6 @@ front (low ∷ high ∷ low' ∷ high' ∷ bytes) = low ∷ high ∷ front (low'
 pub front_step : (low high : ℕ) (bytes : List ℕ) → is_high low high ≡ false → front (low ∷ high ∷ bytes) ≡ low ∷ high ∷ front bytes
 front_step = grind arith
 
-pub rest_step : (low high : ℕ) (bytes : List ℕ) → is_high low high ≡ false → rest (low ∷ high ∷ bytes) ≡ rest bytes
-rest_step = grind arith
-
 -- bytes and what follows them, seen from the bytes that are withheld
 record Seam (a b : List ℕ) : Type 0 where
   whole : a ≡ front a ++ rest a

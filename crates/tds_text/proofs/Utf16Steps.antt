@@ -87,10 +87,6 @@ drop_four = grind (arith, drop_two)
 
 -- ---- the steps from a place on, by the units that stand there
 
-pub held_at : (xs : List ℕ) (i : ℕ) {u : ℕ} → i + 1 < length xs → length xs < i + 4 → u ≡ get_or xs i 0 + 256 * get_or xs (i + 1) 0
-    → N.is_high_surrogate u ≡ true → rest (drop i xs) ≡ drop i xs
-held_at = grind (arith, N.common_steps)
-
 pub one_at : (xs : List ℕ) (i : ℕ) {u code : ℕ} → i + 1 < length xs → u ≡ get_or xs i 0 + 256 * get_or xs (i + 1) 0 → N.is_high_surrogate u ≡ false
     → unwrap_or (N.lone_unit_char u) 0xFFFD ≡ code → IsNext (drop i xs) code 2
 one_at xs i within is h e = rw drop_two (next_one _ _ _ _ (rw is at h) (rw is at e))
