@@ -16,12 +16,6 @@ counted_at = grind (arith, N.add-one, N.drop-cons, piece)
 long : (body : List ℕ) (n k : ℕ) → n + k ≤ length body → length (take k (drop n body)) ≡ k
 long = grind (arith, N.length-drop, N.length-take-le)
 
-regroup : (head : List ℕ) (st cl : ℕ) (units message : List ℕ) {s : ℕ} (server : List ℕ) {p : ℕ} (procedure last rest : List ℕ) {body : List ℕ}
-    → body ≡ head ++ (st ∷ cl ∷ (units ++ (message ++ (s ∷ (server ++ (p ∷ (procedure ++ (last ++ rest)))))))) → s ≡ length server / 2
-    → p ≡ length procedure / 2
-    → body ≡ ((((((head ++ st ∷ cl ∷ []) ++ units) ++ message) ++ (length server / 2 ∷ server)) ++ (length procedure / 2 ∷ procedure)) ++ last) ++ rest
-regroup = grind (arith, N.append_assoc)
-
 notice_spelt : (body : List ℕ) → N.holds_notice body ≡ true → N.SpellsNotice (N.notice_of body) body
 notice_spelt body h =
     let u = N.little (take 2 (drop 6 body)) in
@@ -33,10 +27,11 @@ notice_spelt body h =
     let t = parts_within body h in
     let ls = long body (sa + 1) (2 * s) (omega arith) in
     let lp = long body (pa + 1) (2 * p) (omega arith) in
+    let front : body ≡ take 4 body ++ (N.slice_index body 4 ∷ N.slice_index body 5 ∷ drop 6 body) = grind (arith, N.take-append-drop, N.add-one, N.drop-cons) in
     let after = piece body 6 2 8 refl (piece body 8 (2 * u) _ refl
     (counted_at body t.0 refl (counted_at body t.1 refl (piece body la 4 (la + 4) refl refl)))) in
-    let s_is : s ≡ length (take (2 * s) (drop (sa + 1) body)) / 2 = omega arith in
-    let p_is : p ≡ length (take (2 * p) (drop (pa + 1) body)) / 2 = omega arith in
+    let s_is : length (take (2 * s) (drop (sa + 1) body)) / 2 ≡ s = omega arith in
+    let p_is : length (take (2 * p) (drop (pa + 1) body)) / 2 ≡ p = omega arith in
     record {
       head = take 4 body;
       units = take 2 (drop 6 body);
@@ -44,7 +39,7 @@ notice_spelt body h =
       procedure = take (2 * p) (drop (pa + 1) body);
       last = take 4 (drop la body);
       ignored = drop (la + 4) body;
-      spelt = regroup _ _ _ _ _ _ _ _ _ (grind (arith, N.take-append-drop, N.add-one, N.drop-cons)) s_is p_is;
+      spelt = simp N.append_assoc (cc);
       number = grind (arith, N.length-take-le);
       message = (long body 6 2 (omega arith), long body 8 (2 * u) (omega arith));
       servers = omega arith;
