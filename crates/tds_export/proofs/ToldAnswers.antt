@@ -317,13 +317,12 @@ earlier_text _ _ bytes element p q place h whole less k = elim (dec_le place (le
 broken : {run : Run} {q : PayloadView} {k : SinkView} {at : Part} {stop : Stop} → ReaderSide run q → IsWriter run.given k
     → (x : N.WritesPrefixStreaming (grammar run) text_so_far response_start (start run) q (fresh_at run.given) k at stop)
     → N.IsHolding run.given.after.areas.description ((grammar run).add at x.element)
-    → run.gained ≡ (subst (Puts (fresh_at run.given) x.middle) x.puts.1 x.puts.2).0 ++ x.breaks.0
+    → (p : Puts (fresh_at run.given) x.middle (text_so_far at)) → run.gained ≡ p.0 ++ x.breaks.0
     → text_put run ≡ text_so_far at ++ take x.breaks.2 x.more → N.StopsInText run N.WriteFailed (length run.gained) × N.Bounded run
-broken {run} {q} {k} {at} side writer x holds gained all =
+broken {run} {q} {k} {at} side writer x holds p gained all =
     let g = grammar run in
     let f = run.given.before.reader.failures in
     let be = x.bytes ++ x.element in
-    let p = subst (Puts (fresh_at run.given) x.middle) x.puts.1 x.puts.2 in
     let y = x.breaks in
     let to = g.add at x.element in
     let spelt = spelt_both x.spelt (N.Spelt-one g at x.element x.next) in
@@ -451,8 +450,9 @@ module _ {given : ExportInput} {input left : List ℕ} {q : PayloadView} {stop :
   stopped_of {k} writer (inl (inr (y, broke))) tidy same =
       let x = y.breaks in
       let w : IsWriter given k = grind arith in
-      let d = sends _ _ _ w (rw x.puts.1 at x.puts.2) x.breaks.3 in
-      rw (same broke) (in_text w d.has d.delivered x.breaks.8 (broken (grind arith) w x y.holds refl d.all))
+      let p = rw x.puts.1 at x.puts.2 in
+      let d = sends _ _ _ w p x.breaks.3 in
+      rw (same broke) (in_text w d.has d.delivered x.breaks.8 (broken (grind arith) w x y.holds p refl d.all))
   stopped_of {k} writer (inr (y, broke)) tidy same =
       let w : IsWriter given k = grind arith in
       let d = sends _ _ _ w (whole_puts y.whole) y.fails.1 in
