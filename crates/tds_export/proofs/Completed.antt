@@ -10,29 +10,9 @@ use N.Words.{named_kind, rest_length, return_value}
 
 -- ---- the least TYPE_INFO of each type byte
 
--- after this type byte the least rest is of so many bytes, and describes a kind
-pub record IsLeast (byte n : ℕ) : Type 0 where
-  pub kind : Kind
-  pub described : N.kind_of (byte ∷ least_info byte) ≡ Some kind
-  pub whole : N.length (least_info byte) ≡ n
-
--- it is of bytes, whatever the type byte
-AreBytes-info : (byte : ℕ) → AreBytes (least_info byte)
-AreBytes-info = grind (arith, N.choose, N.SomeBytes.AreBytes-replicate)
-
--- whether a rest of this length, if there is one, has it, and describes a kind
-abbrev pub holds : Option ℕ → List ℕ → Option Kind → Bool
-holds None _ _ = true
-holds (Some n) _ None = false
-holds (Some n) rest (Some kind) = N.length rest == n
-
--- whether the least rest is one, where the type byte is accepted
-has_least : ℕ → Bool
-has_least byte = holds (rest_length byte) (least_info byte) (N.kind_of (byte ∷ least_info byte))
-
--- each byte passes
-every_byte : N.agree_below has_least (λ _. true) 256 ≡ true
-unfolding has_least rest_length named_kind
+-- it describes a kind, where the type byte is accepted
+every_byte : N.agree_below (λ b. N.is_some (rest_length b)) (λ b. N.is_some (N.kind_of (b ∷ least_info b))) 256 ≡ true
+unfolding rest_length named_kind
 every_byte = refl
 
 -- and a number above is no type byte
@@ -40,14 +20,10 @@ beyond : (byte n : ℕ) → rest_length byte ≡ Some n → byte < 256
 unfolding rest_length
 beyond = grind (arith, N.nat_tests)
 
-found : (byte n : ℕ) (r : Option ℕ) (k : Option Kind) → holds r (least_info byte) k ≡ true → r ≡ Some n → N.kind_of (byte ∷ least_info byte) ≡ k
-    → IsLeast byte n
-found = grind (arith, N.eq_true)
-
 -- After each type byte that is accepted its least rest describes a kind.
-least_type : {byte n : ℕ} → rest_length byte ≡ Some n → IsLeast byte n
-unfolding has_least
-least_type {n} h = found _ n _ _ (N.agree_below_at has_least (λ _. true) 256 _ every_byte (beyond _ n h)) h refl
+least_type : (byte : ℕ) {n : ℕ} → rest_length byte ≡ Some n → (kind : Kind) × N.IsTypeInfo kind (byte ∷ least_info byte)
+least_type byte {n} h = N.is_some_value _ (cc (N.agree_below_at (λ b. N.is_some (rest_length b)) (λ b. N.is_some (N.kind_of (b ∷ least_info b)))
+    256 byte every_byte (beyond _ n h)))
 
 -- ---- what completes a cell and a row is read as their rest
 
@@ -80,17 +56,16 @@ are_read kind n = N.is_ok (N.read_of kind (zeros n))
 abbrev ZerosAre : Kind → ℕ → Type 0
 ZerosAre kind n = are_read kind n ≡ true
 
--- what is tested of each scale
-at_each_scale : (P : ℕ → Bool) → N.agree_below P (λ _. true) 8 ≡ true → {scale : ℕ} → is_valid (Time scale) ≡ true → P scale ≡ true
-at_each_scale = grind (arith, N.agree_below_at, N.le_true)
+-- so it is at a scale, where it is at each
+at_scale : (K : ℕ → Kind) (size : ℕ → ℕ) → N.agree_below (λ sc. are_read (K sc) (size sc)) (λ _. true) 8 ≡ true → (scale n : ℕ)
+    → is_valid (Time scale) ≡ true → (n == size scale) ≡ true → ZerosAre (K scale) n
+at_scale K size all sc n v h = exactly (ZerosAre (K sc)) n _ h (N.agree_below_at (λ sc. are_read (K sc) (size sc)) (λ _. true) 8 sc all (grind arith))
 
 zeros_are_a_value : (kind : Kind) (n : ℕ) → is_valid kind ≡ true → N.is_scalar kind ≡ true → N.is_length_allowed kind n ≡ true → ZerosAre kind n
-zeros_are_a_value (Time sc) n v s h = exactly (ZerosAre (Time sc)) n _ h (at_each_scale (λ sc. are_read (Time sc) (N.time_length sc)) refl v)
-zeros_are_a_value (N.DateTime2 sc) n v s h =
-    exactly (ZerosAre (N.DateTime2 sc)) n _ h (at_each_scale (λ sc. are_read (N.DateTime2 sc) (N.time_length sc + 3)) refl v)
-zeros_are_a_value (N.DateTimeOffset sc) n v s h =
-    exactly (ZerosAre (N.DateTimeOffset sc)) n _ h (at_each_scale (λ sc. are_read (N.DateTimeOffset sc) (N.time_length sc + 5)) refl v)
-zeros_are_a_value _ n v s h = grind (arith, exactly)
+zeros_are_a_value (Time sc) n v s h = at_scale Time N.time_length refl sc n v h
+zeros_are_a_value (N.DateTime2 sc) n v s h = at_scale N.DateTime2 (λ sc. N.time_length sc + 3) refl sc n v h
+zeros_are_a_value (N.DateTimeOffset sc) n v s h = at_scale N.DateTimeOffset (λ sc. N.time_length sc + 5) refl sc n v h
+zeros_are_a_value _ n v s h = grind arith
 
 zeros_next : (n : ℕ) → 0 ∷ zeros (n + 1) ≡ zeros (suc n + 1)
 zeros_next = grind arith
@@ -116,9 +91,7 @@ module _ (column : ℕ) where
   -- so many chunks of one zero byte, and the terminator
   chunks_end : {c : Conversion} {total : Option ℕ} (n : ℕ) {content : List ℕ} → is_plain c ≡ true → N.is_total total (length content + n) ≡ true
       → (length content + n) % unit c ≡ 0 → Ends (cell column) WholeCell (ChunkLength c total content) (N.zero_chunks n ++ N.terminator)
-  chunks_end {c} zero {content} plain all even =
-      let same : length content + 0 ≡ length content = omega arith in
-      (N.DataCell c content, spelt_one (omega arith) refl (grind arith) refl)
+  chunks_end {c} zero {content} plain all even = (N.DataCell c content, spelt_one (omega arith) refl (grind arith) refl)
   chunks_end (suc n) {content} plain all even =
       let same : length content + suc n ≡ length (content ++ 0 ∷ []) + n = grind (arith, N.length-append) in
       then_ends {e = 1 ∷ 0 ∷ 0 ∷ 0 ∷ []} (spelt_one (omega arith) refl (grind arith) refl)
@@ -127,8 +100,8 @@ module _ (column : ℕ) where
   -- the rest of the chunks
   length_ends : {c : Conversion} (total : Option ℕ) {content : List ℕ} → is_plain c ≡ true → HoldsTotal c total (length content)
       → Ends (cell column) WholeCell (ChunkLength c total content) (N.rest_of_chunks c total (length content))
-  length_ends None plain h = chunks_end _ plain refl (grind arith)
-  length_ends (Some t) plain (le, even) = grind (arith, chunks_end, N.eq-eqb)
+  length_ends None plain h = grind (arith, chunks_end)
+  length_ends (Some t) plain (le, even) = grind (arith, chunks_end)
 
   -- A part of a cell followed by what completes it is a whole cell.
   cell_ends : (p : CellPart) → CellReached p → Ends (cell column) WholeCell p (N.rest_of_cell p)
@@ -143,13 +116,13 @@ module _ (column : ℕ) where
   cell_ends (ChunkLength c total content) (plain, h) = length_ends _ plain h
   cell_ends (ChunkData c total left content) (plain, h) =
       let l = N.length-append content (zeros (left + 1)) ∙ N.ap (λ v. length content + v) (N.length-replicate (left + 1) 0) in
-      rw (← l) (then_ends (chunk_ends _ plain) (length_ends _ plain (rw (← l) at h)))
+      rw (← l) (then_ends (chunk_ends _ plain) (grind (arith, length_ends)))
   cell_ends (WholeCell x) h = (x, N.Spelt-none _ _)
 
   -- Each element keeps what is known.
   cell_keeps : (p : CellPart) {e : List ℕ} → AreBytes e → CellReached p → N.IsNext (cell column) p e → CellReached (N.cell_add p e)
-  cell_keeps (N.Total c) are plain n = grind (arith, N.choose, N.eq_false, N.SomeBytes.little_below, N.eq_true, N.le_true, N.or_cases, N.unless_none)
-  cell_keeps p are h n = grind (arith, N.choose, N.eq_false, N.eq_true, N.length-append)
+  cell_keeps (N.Total c) are plain n = grind (arith, N.choose, N.SomeBytes.little_below, N.le_true)
+  cell_keeps p are h n = grind (arith, N.length-append)
 
 -- the kinds of the columns are valid
 abbrev AreValid : List Column → Type 0
@@ -161,15 +134,10 @@ abbrev AreMarkedValid : List (Column × Bool) → Type 0
 AreMarkedValid [] = ⊤
 AreMarkedValid ((c, null) ∷ ks) = (is_valid c.kind ≡ true) × AreMarkedValid ks
 
--- a part of a cell that isn't all of it
-abbrev IsOpenCell : CellPart → Type 0
-IsOpenCell (WholeCell x) = ⊥
-IsOpenCell p = ⊤
-
 -- what is known of a part of a row that bytes led to
 abbrev RowReached : N.RowPart → Type 0
 RowReached (N.Bitmap columns) = (0 < length columns) × AreValid columns
-RowReached (N.InCell cells part ks) = IsOpenCell part × CellReached part × AreMarkedValid ks
+RowReached (N.InCell cells part ks) = (0 < (cell 0).size part) × CellReached part × AreMarkedValid ks
 RowReached (WholeRow cells) = ⊤
 
 marked_valid : (columns : List Column) (nulls : ℕ → Bool) (k : ℕ) → AreValid columns → AreMarkedValid (marked columns nulls k)
@@ -187,7 +155,7 @@ part_ends : (before : List Cell) (part : CellPart) (ks : List (Column × Bool)) 
     → Ends (row Windows1252) WholeRow (N.with_cell Windows1252 before ks part) (N.rest_of_cell part ++ N.rest_of_cells ks)
 part_ends before _ ks h next =
     let one = cell_ends _ _ h in
-    then_ends (N.Inside-Spelt _ _ _ (N.cell_in_row Windows1252 _ _) _ _ _ one.1) (next (before ++ one.0 ∷ []))
+    then_ends (N.Inside-Spelt _ _ _ (N.cell_in_row Windows1252 _ _) _ _ _ one.1) (grind arith)
 
 -- the cells to come
 cells_end : (before : List Cell) (ks : List (Column × Bool)) → AreMarkedValid ks
@@ -213,7 +181,7 @@ row_ends (N.Bitmap columns) (some, h) =
     let one : Spelt (row Windows1252) (N.Bitmap columns) (zeros n) (N.next_cell Windows1252 [] (marked columns (bit (zeros n)) 0)) =
     spelt_one (omega (arith, l)) l refl refl in
     let clear = marked_clear columns (bit (zeros n)) 0 (λ k. grind (arith, zero_at)) in
-    then_ends (rw clear at one) (cells_end _ _ (N.subst AreMarkedValid clear (marked_valid _ _ 0 h)))
+    then_ends (rw clear at one) (grind (arith, cells_end, marked_valid))
 row_ends (N.InCell cells part ks) (begun, h, m) =
     let all = part_ends cells part ks h (λ b. cells_end b _ m) in
     grind arith
@@ -234,12 +202,6 @@ DescribedReached _ N.BeforeCount = ⊤
 DescribedReached _ N.NoDescription = ⊤
 DescribedReached room (InColumn bytes count cols place) = (length cols < count) × AreValid cols × PlaceReached room bytes (count - (length cols + 1)) place
 DescribedReached _ (N.WholeDescription bytes cols) = (0 < length cols) × AreValid cols
-
--- a part of a description that isn't all of it
-abbrev IsOpenDescription : N.DescriptionPart → Type 0
-IsOpenDescription N.BeforeCount = ⊤
-IsOpenDescription (InColumn bytes count cols place) = ⊤
-IsOpenDescription d = ⊥
 
 AreValid-append : (cs : List Column) (c : Column) → AreValid cs → is_valid c.kind ≡ true → AreValid (cs ++ c ∷ [])
 AreValid-append [] c h v = (v, tt)
@@ -276,7 +238,7 @@ int_is_spelt = record { ignored = zeros 6; info = 0x38 ∷ []; units = 0; spelt 
 
 ints_are_spelt : (n : ℕ) → N.SpellsColumns (N.replicate n int) (int_columns n)
 ints_are_spelt zero = refl
-ints_are_spelt (suc n) = (N.int_column, int_columns n, refl, int_is_spelt, ints_are_spelt n)
+ints_are_spelt (suc n) = grind (arith, int_is_spelt, (ints_are_spelt n))
 
 length-int_columns : (n : ℕ) → length (int_columns n) ≡ 8 * n
 length-int_columns zero = refl
@@ -301,7 +263,7 @@ module _ (room : ℕ) where
       → DescriptionEnds room (N.with_column bytes count cols c) (int_columns n)
   column_ends bytes _ cols c zero e fits = ((bytes, cols ++ c ∷ []), grind arith)
   column_ends bytes count cols c (suc n) e fits =
-      let to : N.with_column bytes count cols c ≡ InColumn bytes count (cols ++ c ∷ []) ColumnHead = grind (arith, N.choose_false, N.ne_eqb) in
+      let to : N.with_column bytes count cols c ≡ InColumn bytes count (cols ++ c ∷ []) ColumnHead = grind arith in
       rw to (ints_end _ _ _ n (grind (arith, N.length-append)) (omega arith))
 
   count_ends : (bytes : List ℕ) (count : ℕ) (cols : List Column) (kind : Kind) (n : ℕ) → n ≡ count - (length cols + 1) → length cols < count
@@ -313,22 +275,22 @@ module _ (room : ℕ) where
       → PlaceReached room bytes n (N.ColumnInfo byte)
       → DescriptionEnds room (InColumn bytes count cols (N.ColumnInfo byte)) (least_info byte ++ (0 ∷ int_columns n))
   info_ends bytes count cols byte n is fewer (m, known, some, fits) =
-      let least = least_type known in
-      then_ends {e = least_info byte} (spelt_one (omega arith) (cc) (grind arith)
-      (N.ap (λ o. N.with_kind (bytes ++ least_info byte) count cols o) least.described))
+      let least = least_type byte known in
+      then_ends {e = least_info byte} (spelt_one (grind arith) (grind arith) (grind arith)
+      (N.ap (λ o. N.with_kind (bytes ++ least_info byte) count cols o) least.1))
       (grind (arith, count_ends, N.length-append))
 
   -- A part of a description that isn't all of it, followed by what completes it, is a whole one.
-  described_ends : 10 ≤ room → (d : N.DescriptionPart) → IsOpenDescription d → DescribedReached room d → DescriptionEnds room d (N.rest_of_description d)
-  described_ends ten N.BeforeCount o h =
-      then_ends {e = 1 ∷ 0 ∷ []} (grind (arith, spelt_one, N.fits_in)) (ints_end (1 ∷ 0 ∷ []) 1 [] 0 refl (omega arith))
+  described_ends : 10 ≤ room → (d : N.DescriptionPart) → 0 < (N.description room).size d → DescribedReached room d
+      → DescriptionEnds room d (N.rest_of_description d)
+  described_ends ten N.BeforeCount o h = then_ends {e = 1 ∷ 0 ∷ []} (grind (arith, spelt_one)) (ints_end (1 ∷ 0 ∷ []) 1 [] 0 refl (omega arith))
   described_ends ten (InColumn bytes count cols ColumnHead) o (fewer, valid, fits) = grind (arith, ints_end)
   described_ends ten (InColumn bytes count cols (N.ColumnInfo byte)) o (fewer, valid, fits) = rw N.append_assoc (info_ends _ _ _ _ _ refl fewer fits)
   described_ends ten (InColumn bytes count cols (N.NameCount kind)) o (fewer, valid, (v, fits)) = count_ends _ _ _ _ _ refl fewer fits
   described_ends ten (InColumn bytes count cols (N.NameUnits kind m)) o (fewer, valid, (v, some, fits)) =
       let l : length (zeros m) ≡ m = N.length-replicate m 0 in
       then_ends {e = zeros m} (spelt_one (omega arith) l refl refl) (grind (arith, column_ends, N.length-append))
-  described_ends ten d o h = absurd o
+  described_ends ten d o h = grind arith
 
 -- ---- what completes a return value is read as its rest
 
@@ -336,12 +298,12 @@ module _ (room : ℕ) where
 abbrev ReturnReached : N.ReturnPart → Type 0
 ReturnReached (N.ReturnName n) = 0 < n
 ReturnReached (N.ReturnInfo name byte) = (n : ℕ) × (rest_length byte ≡ Some n) × (0 < n)
-ReturnReached (N.InReturnCell name kind part) = IsOpenCell part × CellReached part
+ReturnReached (N.InReturnCell name kind part) = (0 < (cell 0).size part) × CellReached part
 ReturnReached _ = ⊤
 
 -- Each element keeps what is known.
 return_keeps : (p : N.ReturnPart) {e : List ℕ} → AreBytes e → ReturnReached p → N.IsNext return_value p e → ReturnReached (N.return_add p e)
-return_keeps (N.ReturnInfo name byte) are h n = grind (arith, N.is_some_value)
+return_keeps (N.ReturnInfo name byte) are h n = grind arith
 return_keeps (N.InReturnCell name kind part) are h n = grind (arith, cell_keeps)
 return_keeps p are h n = grind arith
 
@@ -374,27 +336,19 @@ return_ends (N.ReturnName n) h =
     then_ends (spelt_one (omega arith) l refl refl) (head_ends)
 return_ends (N.ReturnHead name) h = head_ends
 return_ends (N.ReturnInfo name byte) (n, known, some) =
-    let least = least_type known in
-    then_ends {e = least_info byte} (spelt_one (omega arith) (cc) (grind arith) refl) (kind_ends _ least.described (grind (arith, N.valid_of)))
+    let least = least_type byte known in
+    then_ends {e = least_info byte} (spelt_one (grind arith) (grind arith) (grind arith) refl)
+    (kind_ends _ least.1 (grind arith))
 return_ends (N.InReturnCell name kind part) (begun, h) = let all = value_ends name kind part h in grind arith
 return_ends (N.WholeReturn r) h = (r, N.Spelt-none _ _)
 
 -- ---- what completes a response is read as its rest, and is bytes
 
--- a row, and a return value, that isn't whole
-abbrev IsOpenRow : N.RowPart → Type 0
-IsOpenRow (WholeRow cells) = ⊥
-IsOpenRow _ = ⊤
-
-abbrev IsOpenReturn : N.ReturnPart → Type 0
-IsOpenReturn (N.WholeReturn r) = ⊥
-IsOpenReturn _ = ⊤
-
--- what is known of the token that bytes led into
+-- what is known of the token that bytes led into: its next element has bytes
 abbrev OpenReached : ℕ → Open → Type 0
-OpenReached room (N.Describing d) = IsOpenDescription d × DescribedReached room d
-OpenReached _ (InRow part) = IsOpenRow part × RowReached part
-OpenReached _ (N.InReturn part) = IsOpenReturn part × ReturnReached part
+OpenReached room (N.Describing d) = (0 < (N.description room).size d) × DescribedReached room d
+OpenReached _ (InRow part) = (0 < (row Windows1252).size part) × RowReached part
+OpenReached _ (N.InReturn part) = (0 < return_value.size part) × ReturnReached part
 OpenReached _ (N.TokenBody b n) = (0 < n) × (N.is_notice b ≡ true → 14 ≤ n)
 OpenReached _ at = ⊤
 
@@ -417,9 +371,6 @@ AreBytes-cells [] = tt
 AreBytes-cells ((k, true) ∷ ks) = AreBytes-cells ks
 AreBytes-cells ((k, false) ∷ ks) = grind (arith, (AreBytes-cells ks))
 
-AreBytes-return : (p : N.ReturnPart) → ReturnReached p → AreBytes (N.rest_of_return p)
-AreBytes-return = search (arith, AreBytes-append, AreBytes-info, AreBytes-zeros, AreBytes-cell)
-
 -- the columns that are described are some, of valid kinds
 abbrev CurrentReached : Option (List Column) → Type 0
 CurrentReached None = ⊤
@@ -428,10 +379,6 @@ CurrentReached (Some columns) = (0 < length columns) × AreValid columns
 -- what is known of a part of a response that bytes led to
 abbrev PartReached : ℕ → N.Part → Type 0
 PartReached room p = CurrentReached (N.described_after None p.tokens) × OpenReached room p.at
-
--- a notice of zero bytes holds its inner lengths
-zeros_hold : (n : ℕ) → 14 ≤ n → N.holds_notice (zeros n) ≡ true
-zeros_hold = grind (arith, N.common_steps, N.test_le, N.test_lt)
 
 module _ (room : ℕ) where
   -- Each element keeps what is known.
@@ -475,11 +422,11 @@ module _ (room : ℕ) where
       (tokens ++ N.PassedOver passed [] ∷ [], body_is_read Windows1252 _ (zeros 2) _ refl refl refl refl)
   token_ends ten tokens (N.TokenLength b) o = (
     tokens ++ N.bodied b (zeros 14) ∷ [],
-    body_is_read Windows1252 _ (14 ∷ 0 ∷ []) (zeros 14) refl refl (grind arith) grind (arith, body_free, zeros_hold),
+    body_is_read Windows1252 _ (14 ∷ 0 ∷ []) (zeros 14) refl refl (grind arith) grind arith,
   )
   token_ends ten tokens (N.TokenBody b n) (some, long) =
       let l : length (zeros n) ≡ n = N.length-replicate n 0 in
-      (tokens ++ N.bodied b (zeros n) ∷ [], spelt_one (omega arith) l (grind (arith, body_free, zeros_hold)) refl)
+      (tokens ++ N.bodied b (zeros n) ∷ [], spelt_one (omega arith) l (grind (arith, N.common_steps)) refl)
   token_ends ten tokens (N.Fields f) o =
       let l = N.length-replicate (N.fields_length f) 0 in
       (tokens ++ N.fixed f _ ∷ [], spelt_one (grind arith) l refl refl)
@@ -495,16 +442,7 @@ can_be_completed _ _ _ ten are h =
     let r = part_reached _ are h in
     let end = token_ends _ ten _ _ r.1 in (
       end.0 ++ Done false ∷ [],
-      N.ResponseMeaning.response_is_spelt _ _ (grind (
-        arith,
-        AreBytes-append,
-        AreBytes-info,
-        AreBytes-ints,
-        AreBytes-return,
-        AreBytes-cell,
-        AreBytes-cells,
-        AreBytes-zeros,
-      ))
+      N.ResponseMeaning.response_is_spelt _ _ (grind (arith, AreBytes-append, AreBytes-ints, AreBytes-cell, AreBytes-cells, AreBytes-zeros))
           (N.TokenLaws.is_final-snoc end.0 (Done false))
           (spelt_both h (spelt_both end.1 (done_ends _ _))),
     )
