@@ -23,7 +23,7 @@ module _ {S : Type 0} {g : Grammar S Fault} {s : S} {a b : N.PayloadView} {place
   -- the slice that it is to fill isn't filled
   pub fill_cut : {to : List ℕ} → g.size s ≡ n → g.end_fault s ≡ Some N.MessageEnded → length to ≡ n
       → ((k : ℕ) × (own : Stop) × (k < length to) × N.Ends a b (take k to) own × (stop ≡ N.began_at place own)) → N.StopsReading g s a b place s stop
-  fill_cut = grind (arith, part_cut, N.length-take)
+  fill_cut = grind (arith, N.length-take)
 
 -- ---- what the lengths within the body of a notice say, and what it is read as
 
@@ -69,9 +69,9 @@ notice_is_read {n} {body} h =
     let procedure = (piece body (8 + 2 * u) (1 + 2 * s) (s ∷ h.server) _ message.1 (omega arith)).1 in
     let line = (piece body ((8 + 2 * u) + (1 + 2 * s)) (1 + 2 * p) (p ∷ h.procedure) _ procedure (omega arith)).1 in
     let line_is : line_at body ≡ ((8 + 2 * u) + (1 + 2 * s)) + (1 + 2 * p) = grind (arith, byte_of) in
-    let long : line_at body + 4 ≤ length body = grind (arith, N.length-drop, N.length-append) in (
+    let long : line_at body + 4 ≤ length body = grind (arith, N.length-append) in (
       omega arith,
-      grind (arith, N.test_lt, N.test_le),
+      grind arith,
       same_notice (grind arith) (grind arith) (grind arith) (grind arith) (rw (line_is, (piece body _ 4 h.last h.ignored line h.line.0).0) h.line.1),
     )
 
@@ -110,7 +110,7 @@ value_agrees = grind arith
 
 pub return_name_is_read : (units : ℕ) (name : List ℕ) → length name ≡ 2 * units → Spelt return_value (N.with_return_units units) name (N.ReturnHead name)
 return_name_is_read _ [] l = grind arith
-return_name_is_read _ (x ∷ xs) l = grind (arith, Spelt-step, N.choose_false, N.ne_eqb)
+return_name_is_read _ (x ∷ xs) l = grind (arith, Spelt-step)
 
 front_is_read : {name front : List ℕ} → N.SpellsReturnName name front → Spelt return_value N.ReturnOrdinal front (N.ReturnHead name)
 front_is_read h =
@@ -124,7 +124,7 @@ head_is_read = grind (arith, Spelt-step, N.get_or-append_seam, N.length-append)
 pub info_is_read : (name : List ℕ) (byte : ℕ) (rest : List ℕ) {kind : Kind} → N.rest_length byte ≡ Some (length rest)
     → N.kind_of (byte ∷ rest) ≡ Some kind → Spelt return_value (N.with_return_type name byte (length rest)) rest (N.with_return_kind name (Some kind))
 info_is_read _ _ [] n k = grind arith
-info_is_read _ _ (x ∷ xs) n k = grind (arith, Spelt-step, N.choose_false, N.ne_eqb)
+info_is_read _ _ (x ∷ xs) n k = grind (arith, Spelt-step)
 
 -- What spells a return value is read as it.
 return_is_read : {r : N.ReturnValue} {bytes : List ℕ} → N.SpellsReturnValue r bytes → Spelt return_value N.ReturnOrdinal bytes (N.WholeReturn r)
@@ -133,7 +133,7 @@ return_is_read {r} h =
     rw h.spelt (spelt_both (front_is_read h.named) (spelt_both (rw (append_assoc h.ignored (info.byte ∷ []) info.rest
     ∙ ap (λ v. h.ignored ++ v) (sym info.spelt)) at (spelt_both (head_is_read _ _ h.seven info.whole)
     (info_is_read r.name info.byte info.rest info.whole info.allowed))) (spelt_inside (value_agrees r.name r.kind)
-    (N.cell_is_read N.return_column r.kind _ r.value h.value (grind (arith, N.shape-HasBytes)) h.cell))))
+    (N.cell_is_read N.return_column r.kind _ r.value h.value (grind arith) h.cell))))
 
 -- the bytes up to the value's, and what is read of it
 pub record ValueMeans (name : List ℕ) (kind : Kind) (part : N.CellPart) (b : List ℕ) : Type 0 where
@@ -174,10 +174,10 @@ type_begins _ _ n b _ _ spelt named seven known = N.choose (λ p. ReturnMeans p 
 -- each element keeps the meaning
 pub return_step : (p : N.ReturnPart) (b e : List ℕ) → N.AreBytes e → ReturnMeans p b → N.IsNext return_value p e → ReturnMeans (N.return_add p e) (b ++ e)
 return_step N.ReturnOrdinal b e bytes h n = cc
-return_step N.ReturnNameCount b e bytes h n = grind (arith, N.choose, N.eq_true, N.one_byte)
+return_step N.ReturnNameCount b e bytes h n = grind (arith, N.one_byte)
 return_step (N.ReturnHead name) b e bytes h n =
     let s = N.split_last 7 e n.whole in
-    grind (arith, N.split_last, N.get_or-append_seam, type_begins)
+    grind (arith, N.get_or-append_seam, type_begins)
 return_step (N.ReturnInfo name byte) b e bytes h n =
     let k = N.is_some_value _ (grind arith) in
     value_begins h.1 (byte ∷ e) k.1 (grind (arith, append_assoc)) h.3 h.4 k.1
@@ -253,7 +253,7 @@ module _ (charset : N.Charset) (room : ℕ) where
   body_is_read {tokens} {b} element (x ∷ xs) two is f g =
       let n = length (x ∷ xs) in
       let to : (response charset room).add (part_at tokens (N.TokenLength b)) element ≡ part_at tokens (N.TokenBody b n) =
-      grind (arith, N.choose_false, N.ne_eqb) in
+      grind arith in
       spelt_both (spelt_one (omega arith) two f to) (grind (arith, spelt_one))
 
   -- the same by what spells a body
@@ -304,12 +304,12 @@ module _ (charset : N.Charset) (room : ℕ) where
 
   tokens_are_read : (before : List Token) (current : Option (List Column)) (ts : List Token) (bytes : List ℕ) → described_after None before ≡ current
       → HasColumns current → N.SpellsTokens charset room current ts bytes → Leads (after_tokens before) bytes (after_tokens (before ++ ts))
-  tokens_are_read before _ [] _ is some h = grind (arith, N.Spelt-none, N.append-nil)
+  tokens_are_read before _ [] _ is some h = grind (arith, N.append-nil)
   tokens_are_read before current (t ∷ ts) _ is some h =
       let one : Leads (after_tokens before) h.0 (with_token before t) = grind (arith, token_is_read) in
       let rest = tokens_are_read (before ++ t ∷ []) (described_after current (t ∷ [])) ts h.1
       (cc (described_after-append None before (t ∷ []))) (grind arith) h.4 in
-      grind (arith, token_is_read, N.Spelt-append, append_assoc)
+      grind (arith, N.Spelt-append, append_assoc)
 
   -- What spells a response is read as its tokens, all of it.
   pub response_is_read : {tokens : List Token} {payload : List ℕ} → N.Response charset room tokens payload
