@@ -207,7 +207,7 @@ module _ (charset : N.Charset) {tokens : List Token} {s : N.Progress} {u : N.Vie
         (record s { report = record s.report { errors = s.report.errors + 1; first_error = Some (N.server_error (N.notice_of body)) } })
     first_error_reads cleared none no_bytes room_is put =
         let first = N.TokenLaws.first_next tokens (N.notice_of body) (grind (arith, N.TokenLaws.no_errors)) in
-        (error_reads (cc), cc)
+        (error_reads (cc), grind arith)
 
     -- a later ERROR was read
     pub later_error_reads : 0 < s.report.errors

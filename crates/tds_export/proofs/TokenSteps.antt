@@ -74,7 +74,7 @@ module _ {tokens : List Token} {s : Progress} {u : View} (begun : OpenTexts toke
   pub quietly : {g : Grammar Part Fault} {from : Part} {a b : PayloadView} {place place' : ℕ} {h k : SinkView} {t : Progress} {area' : Space}
       → t.report.errors ≡ s.report.errors → N.ReadsTokens g from tokens a b place place' h k t area'
       → (x : N.ReadsTokens g from tokens a b place place' h k t area') × N.IsNoted u.notice (tokens ++ x.more)
-  quietly same x = (x, cc (same_first _ _ (sym (ap (λ (r : Report). r.errors) x.tracks.report) ∙ same ∙ ap (λ (r : Report). r.errors) begun.tracks.report)))
+  quietly same x = (x, grind (arith, same_first))
 
   module _ {g : Grammar Part Fault} {from : Part} {progress : Progress} {a b : PayloadView} {place place' : ℕ} (t : Token)
       (r : N.Reads g from a b (N.with_token tokens t)) (at : place' ≡ place + length r.bytes) where
@@ -93,11 +93,8 @@ module _ {tokens : List Token} {s : Progress} {u : View} (begun : OpenTexts toke
     -- a token that has no text and describes nothing was read
     abbrev pub bare_reads : text_so_far from ≡ text tokens ++ [] → is_bare t ≡ true → N.Tracks progress (tokens ++ t ∷ [])
         → N.ReadsTokens g from tokens a b place place' u.held u.held progress u.area
-    bare_reads none is tracks =
-        let so = bare is in
-        let same = text_after-snoc false tokens t ∙ ap (λ l. text tokens ++ l) (so.text (begun_after false tokens)) ∙ append-nil (text tokens) in
-        token_reads (same_text from (N.with_token tokens t) u.held (none ∙ ap (λ l. l ++ []) (sym same)) begun.delivered) tracks
-        (holds-snoc t (so.encoded (N.encoded_after [] tokens)) begun.holds)
+    bare_reads none is tracks = token_reads (same_text from (N.with_token tokens t) u.held (grind (arith, bare, texts)) begun.delivered) tracks
+        (holds-snoc t ((bare is).encoded _) begun.holds)
 
 module _ (charset : Charset) {tokens : List Token} {s : Progress} {u : View} (begun : OpenTexts tokens s u) (b : PayloadView) {place : ℕ} where
   -- a token with fields of a fixed length was read
@@ -257,12 +254,15 @@ module _ (which : N.RowToken) (charset : Charset) (room : ℕ) (all : List N.Col
     rows_stream {t} x =
         let s : RowsPart = record { before = []; at = N.row_start which charset all } in
         let begins = ap (λ ts. with_row ts (N.row_start which charset all)) (append-nil tokens) in
-        let same = ap (λ l. l ++ x.puts.0) (ap text_so_far (sym begins) ∙ in_rows_text s) ∙ append_assoc (text tokens) (N.rows_so_far s) x.puts.0
-        ∙ ap (λ l. text tokens ++ l) x.puts.1 ∙ sym (in_rows_text t) in
         let spelt = N.Spelt-induct _ (λ p b. N.Spelt (response charset room) (in_rows s) b (in_rows p))
         (λ p b e k n. (let y = element_next p.at e n in N.ResponseLaws.spelt_both k (rw y.1 at (N.Spelt-one _ _ e y.0)))) s (N.Spelt-none _ _) _ t x.spelt
         in
-        record { bytes = x.bytes; spelt = rw begins at spelt; takes = x.takes; puts = (x.puts.0, same, x.puts.2) }
+        record {
+          bytes = x.bytes;
+          spelt = rw begins at spelt;
+          takes = x.takes;
+          puts = (x.puts.0, grind (arith, in_rows_text s, in_rows_text t, append_assoc, append-nil), x.puts.2);
+        }
 
 -- these rows more are N.counted
 tracks_rows : {s : Progress} (tokens : List Token) (rs : List (List Cell)) → 0 < length rs → N.TracksBefore s tokens
@@ -342,9 +342,9 @@ begins_lead = grind (arith, columns_known, some_columns, start_text)
 abbrev pub first : {charset : Charset} {room byte : ℕ} {tokens : List Token} {to : Part} {a b : PayloadView} {h : SinkView}
     → BeginsToken charset room tokens byte to
     → h.delivered ≤ 2 ^ 64 - 1 → N.Takes a b (byte ∷ []) 1 → N.Streams (response charset room) text_so_far (after_tokens tokens) a b h h to
-first {charset} {room} {byte} {tokens} {to} {a} {b} {h} begins d t = record {
-  bytes = byte ∷ [];
-  spelt = (N.reads_one _ _ a b _ _ begins.next t begins.to_is).spelt;
+first {tokens} {to} {h} begins d t = record {
+  bytes = _;
+  spelt = rw begins.to_is at (N.Spelt-one _ _ _ begins.next);
   takes = t;
   puts = same_text (after_tokens tokens) to h begins.text_is d;
 }
