@@ -34,44 +34,15 @@ conversion_length = grind (arith, characters_length, chars_length, doubled_most,
 emit_length : (c : Conversion) (bytes : List ℕ) → length (emit (N.conversion_rest c) (N.conversion_text c) bytes) ≤ 4 * length bytes
 emit_length = grind (arith, conversion_length, N.length-take)
 
--- a field that begins
-open_length : (c : Conversion) → length (N.open_field c []) ≤ 2
-open_length HexDigits = omega (arith, emit_length HexDigits [])
-open_length c = omega (arith, emit_length c [])
+-- a field that is open
+open_length : (c : Conversion) (bytes : List ℕ) → length (N.open_field c bytes) ≤ 2 + 4 * length bytes
+open_length HexDigits bytes = omega (arith, emit_length HexDigits bytes)
+open_length c bytes = omega (arith, emit_length c bytes)
 
 -- a whole field
 long_length : (c : Conversion) (bytes : List ℕ) → length (N.long_field c bytes) ≤ 2 + 4 * length bytes
 long_length HexDigits bytes = omega (arith, conversion_length HexDigits bytes)
 long_length c bytes = omega (arith, conversion_length c bytes, length-append (N.conversion_text c bytes) (N.quote ∷ []))
-
--- what a piece adds
-emit_more : (c : Conversion) (a b : List ℕ) → N.is_begun c (a ++ b) ≡ true
-    → length (emit (N.conversion_rest c) (N.conversion_text c) (a ++ b)) ≤ length (emit (N.conversion_rest c) (N.conversion_text c) a) + 4 * (3 + length b)
-emit_more c a b h =
-    let j = N.joins_by_name c in
-    let begins = (N.begun_by_test c _).0 h in
-    let e = j.emits a b begins in
-    let short = j.short a (j.front a b begins) in
-    grind (arith, N.joins_by_name, N.begun_by_test, length-append, emit_length)
-
--- what the end adds
-text_more : (c : Conversion) (a : List ℕ) → N.is_fit c a ≡ true → N.is_begun c a ≡ true
-    → length (N.conversion_text c a) ≤ length (emit (N.conversion_rest c) (N.conversion_text c) a) + 12
-text_more c a h b =
-    let j = N.joins_by_name c in
-    let short = j.short a ((N.begun_by_test c a).0 b) in
-    grind (arith, N.joins_by_name, N.fit_by_test, N.begun_by_test, length-append, conversion_length)
-
--- a piece adds four bytes for each byte, and for each of three that were withheld
-open_more : (c : Conversion) (a b : List ℕ) → N.is_begun c (a ++ b) ≡ true
-    → length (N.open_field c (a ++ b)) ≤ length (N.open_field c a) + 4 * (3 + length b)
-open_more HexDigits a b h = omega (arith, emit_more HexDigits a b h)
-open_more c a b h = omega (arith, emit_more c a b h)
-
--- the end adds the text that was withheld, and a quote
-long_more : (c : Conversion) (a : List ℕ) → N.is_fit c a ≡ true → N.is_begun c a ≡ true → length (N.long_field c a) ≤ length (N.open_field c a) + 13
-long_more HexDigits a h b = omega (arith, text_more HexDigits a h b)
-long_more c a h b = omega (arith, text_more c a h b, length-append (N.conversion_text c a) (N.quote ∷ []))
 
 -- ---- the text of a scalar
 
@@ -106,39 +77,24 @@ read_short = grind (arith, choose, checked_short, values_fit)
 
 -- ---- fields
 
--- a last field after the others and a comma
-abbrev before_last : List (List ℕ) → ℕ
-before_last fs = length (joined (fs ++ [] ∷ []))
-
--- the last field and what stands before it
-last_length : (fs : List (List ℕ)) (f : List ℕ) → length (joined (fs ++ f ∷ [])) ≡ before_last fs + length f
-last_length fs f = rw (← N.joined_snoc fs f, ← N.joined_snoc fs [], N.after_append (length fs) [] f) (grind (arith, length-append))
-
--- a comma at most
-before_last_most : (fs : List (List ℕ)) → before_last fs ≤ length (joined fs) + 1
-before_last_most fs = rw (← N.joined_snoc fs []) (grind (arith, length-append))
-
--- one more field
+-- one more field, and a comma
 one_more_length : (fs : List (List ℕ)) (f : List ℕ) → length (joined (fs ++ f ∷ [])) ≤ length (joined fs) + 1 + length f
-one_more_length = grind (arith, last_length, before_last_most)
-
--- the field that is read has at most 48 bytes more
-abbrev FieldMore : N.Option (List ℕ) → N.Option (List ℕ) → Type 0
-FieldMore None None = ⊤
-FieldMore None (Some b) = length b ≤ 48
-FieldMore (Some a) None = ⊥
-FieldMore (Some a) (Some b) = length b ≤ length a + 48
+one_more_length fs f = rw (← N.joined_snoc fs f) (grind (arith, length-append))
 
 -- ---- a cell
 
-module _ (column : ℕ) where
-  -- each element of a cell adds no more
-  cell_more : (p : N.CellPart) {e : List ℕ} → N.AreBytes e → N.IsNext (N.cell column) p e → FieldMore (N.field_so_far p) (N.field_so_far (N.cell_add p e))
-  cell_more (N.ChunkLength c total content) {e} bytes n = choose (λ p. FieldMore (Some (N.open_field c content)) (N.field_so_far p)) _ _ _
-      (λ z. let fit = N.end_fit column c total content e n.free z in let end = long_more c content fit
-      (N.fit_begins c content [] (rw (N.append-nil content) fit)) in omega arith) (λ z. omega arith)
-  cell_more p bytes n =
-      grind (arith, N.and_parts, choose, N.last_fit, long_length, long_more, open_length, open_more, read_short, N.unless_none)
+-- the most that its field has so far
+abbrev cell_most : N.CellPart → ℕ
+cell_most (N.WholeCell x) = length (N.field x)
+cell_most (N.ShortData c left content) = 2 + 4 * length content
+cell_most (N.ChunkLength c total content) = 2 + 4 * length content
+cell_most (N.ChunkData c total left content) = 2 + 4 * length content
+cell_most p = 0
+
+-- each element of a cell adds no more
+cell_more : (column : ℕ) (p : N.CellPart) {e : List ℕ} → N.AreBytes e → N.IsNext (N.cell column) p e
+    → cell_most (N.cell_add p e) ≤ cell_most p + 48 + 4 * length e
+cell_more = grind (arith, choose, length-append, long_length, read_short)
 
 -- ---- a row, whose cells to come that are NULL by their bit are paid by the bitmap
 
@@ -148,14 +104,14 @@ how_many_null [] = 0
 how_many_null ((k, true) ∷ ks) = 1 + how_many_null ks
 how_many_null ((k, false) ∷ ks) = how_many_null ks
 
--- their text
-abbrev row_pending : N.RowPart → ℕ
-row_pending (N.InCell cells part ks) = 5 * how_many_null ks
-row_pending _ = 0
+-- the most that a row has so far, and what is paid for
+abbrev row_most : N.RowPart → ℕ
+row_most (N.Bitmap columns) = 0
+row_most (N.InCell cells part ks) = length (joined (N.map N.field cells)) + 1 + cell_most part + 5 * how_many_null ks
+row_most (N.WholeRow cells) = length (joined (N.map N.field cells)) + 2
 
--- the text so far of a row, and what is paid for
-abbrev row_length : N.RowPart → ℕ
-row_length part = length (N.row_so_far part) + row_pending part
+row_length : (part : N.RowPart) → length (N.row_so_far part) ≤ row_most part
+row_length = grind (arith, length-append, one_more_length, open_length)
 
 -- no more of them than columns
 null_most : (columns : List Column) (nulls : ℕ → Bool) (k : ℕ) → how_many_null (N.marked columns nulls k) ≤ length columns
@@ -170,10 +126,10 @@ none_null (c ∷ columns) k = none_null columns (k + 1)
 module _ (charset : N.Charset) where
   -- the cells to come begin
   next_length : (cells : List N.Cell) (ks : List (Column × Bool))
-      → row_length (N.next_cell charset cells ks) ≤ length (joined (N.map N.field cells)) + 5 * how_many_null ks + 2
+      → row_most (N.next_cell charset cells ks) ≤ length (joined (N.map N.field cells)) + 5 * how_many_null ks + 2
   next_length _ [] = grind (arith, length-append, joined)
   next_length cells ((k, true) ∷ ks) = grind (arith, N.map-append, one_more_length, (next_length (cells ++ N.Null ∷ []) ks))
-  next_length _ ((k, false) ∷ ks) = grind (arith, N.start_quiet)
+  next_length _ ((k, false) ∷ ks) = grind arith
 
 -- ---- a description, whose columns pay for its header
 
@@ -205,18 +161,18 @@ module _ (room : ℕ) where
 
 -- ---- a response
 
--- what the bytes so far still pay for
-abbrev pending : N.Open → ℕ
-pending (N.Describing d) = described_pending d
-pending (N.InRow part) = row_pending part
-pending at = 0
+-- the most that the token that is read has so far, and what is paid for
+abbrev open_most : N.Open → ℕ
+open_most (N.Describing d) = described_pending d
+open_most (N.InRow part) = row_most part
+open_most at = 0
 
--- the length of the text so far, and of what is paid for
+-- the most that the text so far has, and what is paid for
 abbrev grown : Part → ℕ
-grown p = length (N.text_so_far p) + pending p.at
+grown p = length (text p.tokens) + open_most p.at
 
 -- a row in its response
-with_row_grown : (tokens : List N.Token) (part : N.RowPart) → grown (N.with_row tokens part) ≤ length (text tokens) + row_length part
+with_row_grown : (tokens : List N.Token) (part : N.RowPart) → grown (N.with_row tokens part) ≤ length (text tokens) + row_most part
 with_row_grown = grind (arith, length-append, begun_after, texts)
 
 module _ (charset : N.Charset) (room : ℕ) where
@@ -235,7 +191,6 @@ module _ (charset : N.Charset) (room : ℕ) where
     next_length,
     null_most,
     N.map-append,
-    last_length,
     one_more_length,
     none_null,
     with_row_grown,
@@ -252,4 +207,4 @@ module _ (charset : N.Charset) (room : ℕ) where
   -- the text so far is at most 64 times as long as all that is read
   pub bounded_along : (q : Part) (bytes : List ℕ) → N.AreBytes bytes → N.Spelt (response charset room) N.response_start bytes q
       → length (N.text_so_far q) ≤ 64 * length bytes
-  bounded_along q _ are h = omega (arith, grown_along are h)
+  bounded_along q _ are h = grind (arith, grown_along are h, row_length, length-append)

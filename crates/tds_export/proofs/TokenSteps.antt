@@ -4,7 +4,7 @@ use N.{Bool, Charset, Fault, Grammar, SinkView, IsHolding, List, Option, Part, P
 use N.{arith, between, false, in_metadata, inl, inr, length, refl, sym, text, text_so_far, view_of, with_row, ℕ, ◌++◌, ◌+◌, ◌-◌, ◌<◌, ◌^◌, ◌∙◌, ◌∷◌, ◌≡◌, ◌≤◌}
 use N.{Cell, IsNext, None, Row, RowsPart, Some, append_assoc, map, response, rows, true, after_tokens, columns_of}
 use N.ResponseLaws.{description_agrees, row_agrees, part_at, inside, read_inside, stop_inside}
-use N.TokenLaws.{bare, bare_fixed, begun_after, begun_where_sets, encoded_after-append, greatest_span-append, is_bare, same_first, text_after-snoc, texts}
+use N.TokenLaws.{bare, bare_fixed, begun_after, begun_where_sets, encoded_after-append, greatest_span-append, is_bare, same_first, texts}
 use N.TokenLaws.{tracked, tracks_row, with_rows}
 
 -- A token has begun: what the tokens before it left is known, and the sink goes on.

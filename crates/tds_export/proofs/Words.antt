@@ -31,7 +31,7 @@ pub use base_laws.Common.{slice_index, map, ◌⊎◌, MatchResult, unsigned_abs
 pub use base_laws.Common.{take_all}
 pub use base_laws.KnownBytes.{Consumes-nil}
 pub use base_laws.Math.Seq.{get_or-append_seam, take-append_seam, drop-append_seam, take-append-add, get_or-drop}
-pub use base_laws.lemmas.Bool.{ne_eqb, and_parts, or_cases, eq-eqb, agree_below, agree_below_at}
+pub use base_laws.lemmas.Bool.{ne_eqb, and_parts, eq-eqb, agree_below, agree_below_at}
 pub use base_laws.lemmas.Bool.Decides.{nat_tests}
 pub use base_laws.lemmas.Grind.{flat_map-append, common_steps}
 pub use base_laws.lemmas.List.{length-replicate, length-map, map-append, drop-drop, take-append-le}
@@ -61,7 +61,7 @@ pub use values.declared.kind.Kind.{Kind}
 pub use values.declared.kind.Kind.TheVariants.{Guid, Time, DateTime2, DateTimeOffset, Int4}
 pub use values.declared.scalar.ScalarValue.{ScalarValue}
 pub use values.declared.scalar.ValueFault.{ValueFault}
-pub use packet_laws.Choices.{choose, choose_false, eq_true, eq_false, le_true, test_le, test_lt, is_some_value}
+pub use packet_laws.Choices.{choose, choose_false, eq_true, eq_false, le_true, test_lt, is_some_value}
 pub use packet_laws.ElementLaws.{Spelt-induct, feed-Spelt, feed_all-append, longest_cut, one_longest, read_longest, told, Spelt-append, Spelt-step, Spelt-none}
 pub use packet_laws.ElementLaws.{Inside, Inside-Spelt, AreBytes-front, AreBytes-back, longest_refused, Spelt-one, some_longest, one_state, refused_for_good}
 pub use packet_laws.ElementLaws.{no_further}
@@ -92,7 +92,7 @@ pub use packet.declared.fault.Place.TheVariants.{Wire, Payload, Text}
 pub use packet.declared.fault.RefusedKind.TheVariants.{Flt8, FltN}
 pub use packet.declared.fault.Stop.{Stop}
 pub use columns_laws.ByteLemmas.{one_byte, two_bytes, split_last}
-pub use columns_laws.ColumnLaws.{fits_in, columns_are_read, description_is_read, byte_and_rest}
+pub use columns_laws.ColumnLaws.{columns_are_read, description_is_read, byte_and_rest}
 pub use columns_laws.ColumnMeaning.{not_long, not_zero, room_for, known_type, some_kind, DescribedMeans, described_step}
 pub use columns_laws.ElementSteps.{cut_into, refused_into}
 pub use columns_laws.ViewLaws.{description_shows}
@@ -104,10 +104,9 @@ pub use columns.ReturnedType.{return_column, KnownType, NoType, ReadsType, Stops
 pub use columns.View.{columns_of, IsDescription}
 pub use columns.Walking.{columns_left}
 pub use text_laws.Characters.{doubled_length}
-pub use text_laws.ConversionLaws.{joins_by_name, fit_by_test, begun_by_test, fit_begins}
 pub use text_laws.JoiningLemmas.{doubled-append}
 pub use text_laws.WideText.{length-units}
-pub use text.Conversion.{Conversion, Utf8Text, unit, is_fit, is_begun, HexDigits, conversion_rest, conversion_text, long_field, open_field, Utf16Text}
+pub use text.Conversion.{Conversion, Utf8Text, unit, HexDigits, conversion_rest, conversion_text, long_field, open_field, Utf16Text}
 pub use text.Cutting.{whole_within}
 pub use text.Joining.{emit}
 pub use text.Quoting.{doubled, quote, joined, line, line_end}
@@ -119,13 +118,13 @@ pub use csv.Sinks.{SinkView, Finishes, held, WritesPrefix, Puts, IsWriting, Puts
 pub use csv.Streaming.{PutsText, StopsStreaming, Streams, WritesPrefixStreaming}
 pub use csv.declared.sink.Sink.{Sink}
 pub use cells_laws.CellLaws.{cell_is_read}
-pub use cells_laws.CellMeaning.{unless_none, CellMeans, cell_step, start_means, is_ok_value}
-pub use cells_laws.GrowingTexts.{joined_more, Grows, grows_all, grows_same, grows_trans, grows_under, row_grows, last_fit, end_fit}
-pub use cells_laws.RowLaws.{cell_in_row, begins_open, row_is_read, nbc_row_is_read, shape-HasBytes}
+pub use cells_laws.CellMeaning.{CellMeans, cell_step, start_means, is_ok_value}
+pub use cells_laws.GrowingTexts.{joined_more, Grows, grows_all, grows_same, grows_trans, grows_under, row_grows}
+pub use cells_laws.RowLaws.{cell_in_row, begins_open, row_is_read, nbc_row_is_read}
 pub use cells_laws.RowMeaning.{RowMeans, row_step, row_start_means}
-pub use cells_laws.RowTexts.{start_quiet, joined_snoc, after_append}
+pub use cells_laws.RowTexts.{start_quiet, joined_snoc}
 pub use cells.Cells.{Cell, Null, ScalarCell, DataCell, shape, CellPart, ScalarBytes, ScalarLength, ShortLength, ShortData, Total, ChunkLength, ChunkData}
-pub use cells.Cells.{WholeCell, cell_start, cell_add, cell, is_total, return_charset, field, field_so_far}
+pub use cells.Cells.{WholeCell, cell_start, cell_add, cell, is_total, return_charset, field}
 pub use cells.Rows.{RowPart, WholeRow, row, marked, bit, bitmap_length, Bitmap, InCell, next_cell, with_cell, row_start, NbcRow, PlainRow, row_so_far, RowToken}
 pub use cells.Runs.{RowsPart, lines, rows, rows_so_far}
 pub use Rattle.tds_rows.proofs.Successes.{rose}
