@@ -11,7 +11,7 @@ piece body n k m e is = cc (N.take-append-drop k (drop n body), N.drop-drop k n 
 -- a byte that counts units, these, and the bytes after them
 counted_at : (body : List ℕ) {n m : ℕ} {r : List ℕ} → n < length body → (n + 1) + 2 * N.slice_index body n ≡ m → drop m body ≡ r
     → drop n body ≡ N.slice_index body n ∷ (take (2 * N.slice_index body n) (drop (n + 1) body) ++ r)
-counted_at = grind (arith, N.add-one, N.drop-cons, piece)
+counted_at = grind (arith, N.drop-cons, piece)
 
 long : (body : List ℕ) (n k : ℕ) → n + k ≤ length body → length (take k (drop n body)) ≡ k
 long = grind (arith, N.length-drop, N.length-take-le)
@@ -27,7 +27,7 @@ notice_spelt body h =
     let t = parts_within body h in
     let ls = long body (sa + 1) (2 * s) (omega arith) in
     let lp = long body (pa + 1) (2 * p) (omega arith) in
-    let front : body ≡ take 4 body ++ (N.slice_index body 4 ∷ N.slice_index body 5 ∷ drop 6 body) = grind (arith, N.take-append-drop, N.add-one, N.drop-cons) in
+    let front : body ≡ take 4 body ++ (N.slice_index body 4 ∷ N.slice_index body 5 ∷ drop 6 body) = grind arith in
     let after = piece body 6 2 8 refl (piece body 8 (2 * u) _ refl
     (counted_at body t.0 refl (counted_at body t.1 refl (piece body la 4 (la + 4) refl refl)))) in
     let s_is : length (take (2 * s) (drop (sa + 1) body)) / 2 ≡ s = omega arith in
@@ -40,7 +40,7 @@ notice_spelt body h =
       last = take 4 (drop la body);
       ignored = drop (la + 4) body;
       spelt = simp N.append_assoc (cc);
-      number = grind (arith, N.length-take-le);
+      number = grind arith;
       message = (long body 6 2 (omega arith), long body 8 (2 * u) (omega arith));
       servers = omega arith;
       procedures = omega arith;
@@ -51,13 +51,7 @@ module _ (charset : N.Charset) (room : ℕ) where
   one_more_token : (current : Option (List Column)) (ts : List Token) (a : List ℕ) (t : Token) (e : List ℕ) → N.SpellsTokens charset room current ts a
       → N.SpellsToken charset room (N.described_after current ts) t e → N.SpellsTokens charset room current (ts ++ t ∷ []) (a ++ e)
   one_more_token _ [] a t e h s = grind (arith, N.append-nil)
-  one_more_token current (u ∷ ts) a t e h s = (
-    h.0,
-    h.1 ++ e,
-    cc (N.append_assoc h.0 h.1 e),
-    h.3,
-    one_more_token (N.described_after current (u ∷ [])) ts h.1 t e h.4 (grind (arith, N.ResponseLaws.described_after-append)),
-  )
+  one_more_token current (u ∷ ts) a t e h s = grind (arith, N.append_assoc, (one_more_token (N.described_after current (u ∷ [])) ts h.1 t e h.4 (grind arith)))
 
   -- whole tokens, the first byte of such a token, and what is after it
   pub record AfterLead (tokens : List Token) (lead : Lead) (P : List ℕ → Type 0) (b : List ℕ) : Type 0 where
@@ -101,17 +95,11 @@ module _ (charset : N.Charset) (room : ℕ) where
   with_described_means (N.WholeDescription x cs) h = token_means _ h (grind arith)
   with_described_means d h = h
 
-  row_token : {current : Option (List Column)} {columns : List Column} (nbc : Bool) (cells : List N.Cell) (first : ℕ) (rest : List ℕ)
-      → current ≡ Some columns → N.IsFirst (row_lead nbc) first → N.RowMeans charset columns nbc (N.WholeRow cells) rest
-      → N.SpellsRowToken charset current cells (first ∷ rest)
-  row_token false _ first _ e begins h = grind arith
-  row_token true _ first rest e begins h = rw e (rest, N.inr ((first, refl, begins), h))
-
   with_row_means : {tokens : List Token} (part : N.RowPart) {b : List ℕ} {columns : List Column} (nbc : Bool)
       → N.described_after None tokens ≡ Some columns → AfterLead tokens (row_lead nbc) (N.RowMeans charset columns nbc part) b
       → PartMeans (N.with_row tokens part) b
-  with_row_means (N.WholeRow cells) nbc e h = token_means _ h (grind (arith, row_token))
-  with_row_means _ {columns} nbc e h = (columns, nbc, e, h)
+  with_row_means (N.WholeRow cells) nbc e h = token_means _ h (grind arith)
+  with_row_means _ nbc e h = grind arith
 
   with_return_means : {tokens : List Token} (part : N.ReturnPart) {b : List ℕ} → AfterLead tokens N.AReturn (ReturnMeans part) b
       → PartMeans (N.with_return tokens part) b
@@ -135,7 +123,7 @@ module _ (charset : N.Charset) (room : ℕ) where
     where
       spelt : (k : N.Bodied) → N.IsFirst (N.WithBody k) h.first → IsFree k body
           → N.SpellsToken charset room (N.described_after None tokens) (N.bodied k body) (h.first ∷ h.rest)
-      spelt (N.APassed passed) begins f = grind (arith, begins)
+      spelt (N.APassed passed) begins f = grind arith
       spelt b begins f = (h.rest, body, grind arith, h.follows, notice_spelt _ (grind arith))
 
   -- each element keeps the meaning
@@ -149,7 +137,7 @@ module _ (charset : N.Charset) (room : ℕ) where
       let t = N.two_bytes e n.whole bytes in
       let read = ap (λ v. v ++ e) h.follows ∙ t.0 in
       N.choose (λ p. PartMeans p (b ++ e)) _ _ _ (λ z. body_means (further e h (read ∙ ap (λ v. v % 256 ∷ v / 256 ∷ []) (N.eq_true _ 0 z), omega arith))
-      (grind (arith, N.eq_true))) (λ z. further e h (read, t.1))
+      (grind arith)) (λ z. further e h (read, t.1))
   part_step (N.TokenBody k m) b {e} bytes h n = body_means (further e h (cc, (omega arith))) n.free
   part_step {tokens} (N.Fields f) b {e} bytes h n =
       let to : AfterLead tokens (N.WithFields f) (λ rest. rest ≡ e) (b ++ e) = further e h (cc) in
