@@ -51,10 +51,6 @@ piece _ n k a b e l = (rw (e, ← l) (N.take-append_seam a b), sym (N.drop-drop 
 byte_of : (body : List ℕ) (n x : ℕ) (b : List ℕ) → drop n body ≡ x ∷ b → N.slice_index body n ≡ x
 byte_of body n x b e = ap (N.slice_index body) (omega arith) ∙ sym (N.get_or-drop n _ 0 0) ∙ ap (λ v. N.slice_index v 0) e
 
-same_notice : {a b c : ℕ} {d : List ℕ} {e : ℕ} {n : Notice} → a ≡ n.number → b ≡ n.state → c ≡ n.class → d ≡ n.message → e ≡ n.line_number
-    → ◌≡◌ {A = Notice} (record { number = a; state = b; class = c; message = d; line_number = e }) n
-same_notice = grind arith
-
 -- the body of a notice is read as it
 notice_is_read : {n : Notice} {body : List ℕ} → N.SpellsNotice n body → (14 ≤ length body) × (N.holds_notice body ≡ true) × (N.notice_of body ≡ n)
 notice_is_read {n} {body} h =
@@ -63,17 +59,14 @@ notice_is_read {n} {body} h =
     let p = length h.procedure / 2 in
     let spelt = simp append_assoc at h.spelt in
     let head = piece _ 0 4 _ _ spelt h.number.0 in
-    let class = (piece body 4 1 (n.state ∷ []) _ head.1 refl).1 in
-    let units = piece body 6 2 h.units _ (piece body 5 1 (n.class ∷ []) _ class refl).1 h.message.0 in
+    let units = piece body 6 2 h.units _ (piece body 4 2 (n.state ∷ n.class ∷ []) _ head.1 refl).1 h.message.0 in
     let message = piece body 8 (2 * u) n.message _ units.1 h.message.1 in
     let procedure = (piece body (8 + 2 * u) (1 + 2 * s) (s ∷ h.server) _ message.1 (omega arith)).1 in
     let line = (piece body ((8 + 2 * u) + (1 + 2 * s)) (1 + 2 * p) (p ∷ h.procedure) _ procedure (omega arith)).1 in
     let line_is : line_at body ≡ ((8 + 2 * u) + (1 + 2 * s)) + (1 + 2 * p) = grind (arith, byte_of) in
-    let long : line_at body + 4 ≤ length body = grind (arith, N.length-append) in (
-      omega arith,
-      grind arith,
-      same_notice (grind arith) (grind arith) (grind arith) (grind arith) (rw (line_is, (piece body _ 4 h.last h.ignored line h.line.0).0) h.line.1),
-    )
+    let long : line_at body + 4 ≤ length body = grind (arith, N.length-append) in
+    let number : N.little (take 4 (drop (line_at body) body)) ≡ n.line_number = rw (line_is, (piece body _ 4 h.last h.ignored line h.line.0).0) h.line.1 in
+    (omega arith, grind arith, grind arith)
 
 -- ---- what a return value's spelling is read as, and what the bytes that lead to a part of it spell
 
