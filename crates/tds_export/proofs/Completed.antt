@@ -164,11 +164,6 @@ cells_end before [] h = (before, N.Spelt-none _ _)
 cells_end before ((k, true) ∷ ks) (v, h) = cells_end (before ++ Null ∷ []) ks h
 cells_end before ((k, false) ∷ ks) (v, h) = rw (← N.begins_open Windows1252 before ks k.kind _) (part_ends before _ ks (grind arith) (λ b. cells_end b ks h))
 
-zero_at : (n i : ℕ) → N.slice_index (zeros n) i ≡ 0
-zero_at zero i = refl
-zero_at (suc n) zero = refl
-zero_at (suc n) (suc i) = zero_at n i
-
 marked_clear : (columns : List Column) (nulls : ℕ → Bool) (k : ℕ) → ((i : ℕ) → nulls i ≡ false) → marked columns nulls k ≡ N.all_clear columns
 marked_clear [] _ k h = refl
 marked_clear (c ∷ cs) _ k h = λ i. (c, h k i) ∷ marked_clear cs _ (k + 1) h i
@@ -180,7 +175,7 @@ row_ends (N.Bitmap columns) (some, h) =
     let l = N.length-replicate n 0 in
     let one : Spelt (row Windows1252) (N.Bitmap columns) (zeros n) (N.next_cell Windows1252 [] (marked columns (bit (zeros n)) 0)) =
     spelt_one (omega (arith, l)) l refl refl in
-    let clear = marked_clear columns (bit (zeros n)) 0 (λ k. grind (arith, zero_at)) in
+    let clear = marked_clear columns (bit (zeros n)) 0 (λ k. grind (arith, N.common_steps)) in
     then_ends (rw clear at one) (grind (arith, cells_end, marked_valid))
 row_ends (N.InCell cells part ks) (begun, h, m) =
     let all = part_ends cells part ks h (λ b. cells_end b _ m) in

@@ -212,10 +212,9 @@ begun_in = grind arith
 -- The token was read, or that stopped, whatever the tokens before it are.
 pub step_read : {R W U : Type 0} {remaining : R → Option (List ℕ)} {contents : W → Option (List ℕ)} {from : List Token
     → Part} {old new : N.Exporter R W} {result : N.Result U Stop} → N.IsRunning old → N.LeavesRun old new result
-    → ((tokens : List Token) → OpenTexts tokens old.progress (view_of remaining contents old)
-    → N.MatchResult result (λ _. N.ReadsNext old.charset (from tokens) tokens (view_of remaining contents old) (view_of remaining contents new)
-    new.progress) (λ stop. N.StopsIn old.charset (from tokens) (view_of remaining contents old) (view_of remaining contents new) stop))
-    → N.StepRead remaining contents from old new result
+    → (let view = view_of remaining contents in (tokens : List Token) → OpenTexts tokens old.progress (view old)
+    → N.MatchResult result (λ _. N.ReadsNext old.charset (from tokens) tokens (view old) (view new) new.progress)
+    (N.StopsIn old.charset (from tokens) (view old) (view new))) → N.StepRead remaining contents from old new result
 step_read = grind arith
 
 -- ---- rows, one after another
