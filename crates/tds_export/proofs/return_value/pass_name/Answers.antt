@@ -14,8 +14,7 @@ returns-in_err-fill-clause-gives g c =
     (N.Bodies.ordinal_read _ _ ordinal.counted ordinal.takes c.in_ok-pass.ensures.place)
     (record {
       at = N.ReturnNameCount;
-      stops = N.ResponseLaws.fill_cut refl refl (search N.rules)
-          (c.in_err-fill.ensures.part c.in_ok-pass.ensures.payload.going);
+      stops = grind (N.arith, N.ResponseLaws.fill_cut);
     }))
 
 pub returns-in_err-pass-2-clause-gives : goal.returns-in_err-pass-2-clause-gives

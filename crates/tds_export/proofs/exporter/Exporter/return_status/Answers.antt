@@ -9,7 +9,7 @@ tracks_status n e k = grind (N.arith, N.TokenLaws.tracked)
 pub returns-in_err-fill : goal.returns-in_err-fill
 returns-in_err-fill g c = N.TokenSteps.step_read c.requires.running (search rules) (λ _ begun.
     N.passed _ _ _ _ c.from_residual.ensures.1 (N.TokenSteps.stops_first begun refl refl
-    (N.ResponseLaws.fill_cut refl refl (search rules) (c.in_err-fill.ensures.part c.requires.running.payload.going))))
+    (grind (N.arith, N.ResponseLaws.fill_cut))))
 
 pub returns : goal.returns
 returns g c = N.TokenSteps.step_read c.requires.running (search rules) (λ _ begun. let fields = c.fill.new.to in
@@ -17,5 +17,4 @@ returns g c = N.TokenSteps.step_read c.requires.running (search rules) (λ _ beg
     let status = N.cast_signed N.w32 (N.cast_unsigned N.w32 c.read_i32-status.result) in
     let kept : status ≡ c.read_i32-status.result = search rules in
     let is = kept ∙ c.read_i32-status.ensures ∙ N.ResponseLaws.signed_is _ ∙ N.ap (λ n. N.signed (N.little_number n fields)) (N.sym four) in
-    N.TokenSteps.fixed_reads _ begun _ _ (rw four at c.in_ok-fill.ensures.place) four
-    (rw four at c.in_ok-fill.ensures.all) (tracks_status _ is begun.tracks) refl)
+    N.TokenSteps.fixed_reads _ begun _ _ (grind N.arith) four (grind N.arith) (tracks_status _ is begun.tracks) refl)

@@ -6,7 +6,7 @@ use N.TokenSteps.{begun_in, stops_first}
 pub returns-in_err-fill-clause-gives : goal.returns-in_err-fill-clause-gives
 returns-in_err-fill-clause-gives g c = λ _ quiet _ tracks holds noted.
     N.passed _ _ _ _ c.from_residual.ensures.1 (stops_first (begun_in g.R.Read.remaining g.W.Write.contents c.requires.running tracks holds noted) refl
-    refl (N.ResponseLaws.fill_cut refl refl (search N.rules) (c.in_err-fill.ensures.part c.requires.running.payload.going)))
+    refl (grind (N.arith, N.ResponseLaws.fill_cut)))
 
 pub returns-in_err-pass-clause-gives : goal.returns-in_err-pass-clause-gives
 returns-in_err-pass-clause-gives g c = λ _ quiet _ tracks holds noted. let cut = c.in_err-pass.ensures.part c.in_ok-fill.ensures.payload.going in
