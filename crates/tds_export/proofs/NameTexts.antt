@@ -12,7 +12,7 @@ then_puts x y = N.PutsPiece-trans _ _ _ _ _ _ _ _ x y
 -- where `?` passes on that the writer failed, more would have been put
 pub passed_piece : {W U V : Type 0} {contents : W → Option (List ℕ)} {a b : Sink W} {p : List ℕ} {e : Stop} {r : N.Result V Stop} (more : List ℕ)
     → N.IsErrAnd r (λ stop. stop ≡ e) → PutsPiece {U = U} contents a b p (N.Err e) → PutsPiece contents a b (p ++ more) r
-passed_piece more is x = N.PutsPiece-passed _ _ _ _ _ _ _ is x
+passed_piece = grind (arith, N.common_steps)
 
 -- the text of these names, after which those are left: the line ends after the last
 abbrev pub names_text : (done left : List Column) → List ℕ
@@ -33,7 +33,7 @@ one_more : {columns left rest : List Column} {c : Column} {index count : ℕ} �
     → (y : Named columns rest (index + 1)) × (names_text x.done left ++ in_line index (index + 1 == count) (name_field c) ≡ names_text y.done rest)
 one_more {c} is x number = let joins = N.joined_snoc (map name_field x.done) (name_field c) in (
   record { done = x.done ++ c ∷ []; split = grind (arith, N.append_assoc); index_is = grind (arith, N.length-append) },
-  grind (arith, N.eq-eqb, N.length-map, N.length-append, N.map-append, N.append_assoc, joined, N.ne_eqb, N.append-nil),
+  grind (arith, N.length-map, N.length-append, N.map-append, N.append_assoc, joined),
 )
 
 -- the header line begins with them
@@ -50,8 +50,7 @@ pub record NamesPut {W : Type 0} (contents : W → Option (List ℕ)) (columns l
 
 pub names_none : {W : Type 0} {contents : W → Option (List ℕ)} {columns left : List Column} {sink : Sink W} → left ≡ columns → 0 < length columns
     → N.IsWriting sink → NamesPut contents columns left 0 sink sink
-names_none {left} e some going =
-    record { names = record { done = []; split = e; index_is = N.refl }; puts = rw (none_put left (rw e some)) (N.PutsPiece-none _ _ _ going) }
+names_none {left} e some going = record { names = grind arith; puts = rw (none_put left (rw e some)) (N.PutsPiece-none _ _ _ going) }
 
 module _ {W : Type 0} {contents : W → Option (List ℕ)} {columns left rest : List Column} {c : Column} {index count : ℕ} {a b d : Sink W}
     (is : left ≡ c ∷ rest) (x : NamesPut contents columns left index a b) (number : count ≡ length columns) where
@@ -89,4 +88,4 @@ pub name_written : {begun : N.Bool} {columns left rest : List Column} {c : Colum
     → NamesWritten begun columns rest (index + 1) (made + m) room (take made to ++ (new ++ more))
 name_written new more is x number within same text =
     let names = one_more is x.names number in
-    record { names = names.0; same = same ∙ x.same; within = grind (arith, N.length-append, N.length-take-le); text = grind (arith, made_more, N.append_assoc) }
+    record { names = names.0; same = same ∙ x.same; within = grind (arith, N.length-append, N.length-take-le); text = grind (arith, made_more) }
