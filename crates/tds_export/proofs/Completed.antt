@@ -121,7 +121,7 @@ module _ (column : ℕ) where
 
   -- Each element keeps what is known.
   cell_keeps : (p : CellPart) {e : List ℕ} → AreBytes e → CellReached p → N.IsNext (cell column) p e → CellReached (N.cell_add p e)
-  cell_keeps (N.Total c) are plain n = grind (arith, N.choose, N.SomeBytes.little_below, N.le_true)
+  cell_keeps (N.Total c) are plain n = grind (arith, N.choose, N.SomeBytes.little_below)
   cell_keeps p are h n = grind (arith, N.length-append)
 
 -- the kinds of the columns are valid

@@ -56,7 +56,7 @@ module _ (run : Run) {q : PayloadView} {part : Part} {bytes : List ℕ} (side : 
         part = part;
         stands = grind arith;
         leads = rw payload (N.longest_refused g _ _ _ _ _ spelt refused);
-        first = grind (arith, rest_of, refused, length-append);
+        first = grind (arith, rest_of, length-append);
         written = text;
         kept = kept b.packets;
       }
@@ -104,7 +104,7 @@ module _ (run : Run) {q : PayloadView} {part : Part} {bytes : List ℕ} (side : 
       | inr e ↦ absurd (e.0 (cc))
     ]
     | inr x ↦ elim c.stop_is [
-      | inl e ↦ grind (arith, N.wire_goes_on)
+      | inl e ↦ grind arith
       | inr e ↦ rw e.1 (grind (arith, stopped_on_wire))
     ]
   ]
@@ -137,7 +137,7 @@ begins_added _ N.AfterLast _ h = h
 -- what follows whole elements leads from where they lead
 rest_leads : {S : Type 0} {g : N.Grammar S N.Fault} {s t u : S} {a b : List ℕ} → Spelt g s a t → Spelt g s (a ++ b) u → Spelt g t b u
 unfolding Told
-rest_leads = grind (arith, append-nil, N.feed-Spelt, N.feed_all, N.feed_all-append, N.told)
+rest_leads = grind (arith, append-nil, N.feed-Spelt, N.feed_all-append, N.told)
 
 -- what follows such bytes, up to the longest part
 pub further : {S : Type 0} (g : N.Grammar S N.Fault) (from to last : S) (bytes more : List ℕ) (place : ℕ) → Spelt g from bytes to
@@ -338,9 +338,7 @@ broken {run} {q} {k} {at} side writer x holds p gained all =
     let front : take early.0 (payload_of last.before) ≡ take early.0 be = sym (grind (arith, N.take-append-le))
     ∙ ap (take early.0) (sym (ap payload_of (sym last.split) ∙ N.flat_map-append _ last.before (last.last ∷ [])) ∙ payload_is)
     ∙ N.take-append-le early.0 be more (omega arith) in
-    let short = earlier_text _ _ _ _ at early.1 early.0 x.spelt x.next.whole fewer (rw front at early.2.spelt) in
-    let total : length (text_put run) ≡ 4096 * (p.1 + y.1 + 1) =
-    omega (arith, ap length gained, ap length writer.waiting, length-append run.gained (N.waiting run), length-append p.0 y.0) in
+    let short = earlier_text _ _ _ _ at early.1 early.0 x.spelt x.next.whole fewer (grind arith) in
     let chunks : length (text_put run) ≡ 4096 * (length run.gained / 4096 + 1) = grind (arith, length-append) in
     let passes : length (text_so_far at) < length (text_put run) = grind (arith, length-append) in
     let text_more = sym (grind (arith, N.append_assoc)) ∙ ap (λ v. (v ++ drop y.2 x.more) ++ beyond.0) all
@@ -348,7 +346,7 @@ broken {run} {q} {k} {at} side writer x holds p gained all =
     let comes : N.Comes run b.packets (length be) to =
     record {
       within = omega (arith, ap length payload_is, length-append be more);
-      spelt = rw (ap (take (length be)) payload_is ∙ N.take-append_seam be more) spelt;
+      spelt = grind (arith, N.take-append_seam);
     } in
     let reached : Reached run to =
     record { rest = _; bytes = _; more = _; begins = rw N.append_assoc at b; spelt = spelt } in (
@@ -387,15 +385,10 @@ whole_message_of {run} {a} {q} is side x =
     let m = N.over_front _ _ _ _ _ q _ _ side.bytes side.left (rw is at x.takes) x.over in
     let reached : Reached run (N.after_tokens x.tokens) = grind (arith, append-nil) in
     let most = bounded side.bytes reached x.holds.peak in
-    grind (arith, payload_bytes, N.AreBytes-front, response_is_spelt, append-nil, N.longest_cut, kept_at)
+    grind (arith, payload_bytes, N.AreBytes-front, response_is_spelt, N.longest_cut)
 
 text_after_tokens : (tokens : List Token) → text_so_far (N.after_tokens tokens) ≡ text tokens
 text_after_tokens = grind (arith, append-nil)
-
--- the last delivery failed
-failed_at_end : {run : Run} {tokens : List Token} → WholeMessage run tokens → text_put run ≡ text tokens → N.FailsToWrite run.given
-    → N.StopsInText run N.WriteFailed (length run.gained)
-failed_at_end = grind arith
 
 -- ---- what an export answers
 
@@ -406,7 +399,7 @@ begins_run _ e = cc
 -- all of the text was put, where the whole response was read
 whole_puts : {g : N.Grammar Part Fault} {a q : PayloadView} {h k : SinkView} {area : N.Space} → (x : N.ReadsWhole g response_start a q h k area)
     → Puts h k (text x.tokens)
-whole_puts x = rw (x.puts.1 ∙ text_after_tokens x.tokens) at x.puts.2
+whole_puts = grind (arith, text_after_tokens)
 
 -- what is told of a stop, with the sink left in this state
 abbrev StopTold : ExportInput → (input left : List ℕ) → Stop → SinkView → Type 0
@@ -457,7 +450,7 @@ module _ {given : ExportInput} {input left : List ℕ} {q : PayloadView} {stop :
       let w : IsWriter given k = grind arith in
       let d = sends _ _ _ w (whole_puts y.whole) y.fails.1 in
       let whole = whole_message_of {run = run_of given input left d.gained} refl (grind arith) y.whole in
-      rw (same broke) (in_text w d.has d.delivered y.fails.2 (grind (arith, failed_at_end, append-nil, N.rose)))
+      rw (same broke) (in_text w d.has d.delivered y.fails.2 (grind (arith, append-nil)))
 
 -- what a run that stopped read
 stops_read : {g : N.Grammar Part Fault} {a q : PayloadView} {h k : SinkView} {area : N.Space} {failed : Bool} {stop : Stop}
