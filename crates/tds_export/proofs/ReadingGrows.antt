@@ -23,17 +23,13 @@ token_grows tokens t =
     let m = N.text_after (N.TokenLaws.begun_after N.false tokens) (t ∷ []) in
     (m, cc (N.append-nil (text tokens), N.append-nil (text tokens ++ m), N.TokenLaws.text_after-snoc N.false _ t))
 
--- what has just begun has no text
-fresh_text : (at : Open) → IsFresh at → N.open_text at ≡ []
-fresh_text = grind arith
-
 -- what has just begun leaves the text
 same_grows : (tokens : List Token) (at : Open) → IsFresh at → Grows (text tokens ++ []) (text_so_far (part_at tokens at))
-same_grows _ at h = rw (fresh_text at h) (grows_same _)
+same_grows = grind (arith, N.common_steps)
 
 -- a row in its response
 with_row_grows : (tokens : List Token) (part : N.RowPart) → Grows (text tokens ++ N.row_so_far part) (text_so_far (N.with_row tokens part))
-with_row_grows = grind (arith, grows_same, N.TokenLaws.texts)
+with_row_grows = grind (arith, N.TokenLaws.texts)
 
 -- a row that begins
 start_grows : (tokens : List Token) (start : List N.Column → N.RowPart) (current : N.Option (List N.Column))
@@ -79,4 +75,4 @@ module _ (charset : N.Charset) (room : ℕ) where
   -- and to the span
   pub span_along : (p q : Part) (bytes : List ℕ) → N.Spelt (N.response charset room) p bytes q → N.span_so_far p ≤ N.span_so_far q
   span_along p q _ s = N.Spelt-induct _ (λ r b. N.span_so_far p ≤ N.span_so_far r)
-      (grind (arith, N.choose, description_span, lead_cases, N.TokenLaws.greatest_span-append)) p (omega arith) _ q s
+      (grind (arith, description_span, N.TokenLaws.greatest_span-append)) p (omega arith) _ q s

@@ -40,16 +40,15 @@ module _ {g : Grammar Part Fault} {s t : Part} {a b c : PayloadView} {h i k : Si
   -- what stops a call stops one that read on before it
   pub stops_further : {place middle : ℕ} {area : Space} {failed : Bool} {stop : Stop} → middle ≡ place + length x.bytes
       → N.StepStops g t b c middle i k area failed stop → N.StepStops g s a c place h k area failed stop
-  stops_further at (inl y) =
-      inl (
-        record {
-          at = y.0.at;
-          stops = N.stops_after g s t a b c _ _ _ (record { bytes = x.bytes; spelt = x.spelt; takes = x.takes }) (rw at at y.0.stops);
-          puts = N.puts_both text_so_far s t y.0.at h i k x.puts y.0.puts;
-          holds = y.0.holds;
-        },
-        y.1,
-      )
+  stops_further at (inl y) = inl (
+    record {
+      at = y.0.at;
+      stops = N.stops_after g s t a b c _ _ _ (grind arith) (rw at at y.0.stops);
+      puts = N.puts_both text_so_far s t y.0.at h i k x.puts y.0.puts;
+      holds = y.0.holds;
+    },
+    y.1,
+  )
   stops_further at (inr y) = inr (record { at = y.0.at; breaks = N.breaks_after g _ s t a b c h i k _ _ x y.0.breaks; holds = y.0.holds }, y.1)
 
 -- a reading that put no text stopped
@@ -197,10 +196,10 @@ module _ (charset : Charset) {tokens : List Token} {s : Progress} {u : View} {ar
             few = few;
             puts = same_text (in_metadata tokens) (N.with_described tokens l.at) _ (grind arith) begun.delivered;
             more = header;
-            text_is = grind (arith, begun_after, begun_where_sets, texts);
+            text_is = grind (arith, begun_where_sets, texts);
             breaks = rw shown at breaks;
           };
-          holds = rw l.to_is (grind (arith, encoded_after-append, greatest_span-append));
+          holds = grind (arith, encoded_after-append, greatest_span-append);
         }
 
 -- A token has begun where the run goes on.
@@ -235,7 +234,7 @@ module _ (which : N.RowToken) (charset : Charset) (room : ℕ) (all : List N.Col
   in_rows p = with_row (tokens ++ map Row p.before) p.at
 
   in_rows_text : (p : RowsPart) → text_so_far (in_rows p) ≡ text tokens ++ N.rows_so_far p
-  in_rows_text = grind (arith, rows_text, append_assoc, N.lines, texts)
+  in_rows_text = grind (arith, rows_text, append_assoc, texts)
 
   module _ (known : N.described_after None tokens ≡ Some all) where
     -- an element leads from one of these to another
@@ -244,7 +243,7 @@ module _ (which : N.RowToken) (charset : Charset) (room : ℕ) (all : List N.Col
 
     element_next : {before : List (List Cell)} (p : N.RowPart) (e : List ℕ) → IsNext (rows which charset all) (record { before = before; at = p }) e
         → Steps (record { before = before; at = p }) e ((rows which charset all).add (record { before = before; at = p }) e)
-    element_next = grind (arith, N.eq_true, append_assoc, N.ResponseLaws.described_after-append, N.map-append, rows_describe)
+    element_next = grind (arith, append_assoc, N.ResponseLaws.described_after-append, N.map-append, rows_describe)
 
     -- what is read of rows from their start on and put, is read of the response and put
     abbrev rows_stream : {t : RowsPart} {a b : PayloadView} {h j : SinkView}
@@ -266,7 +265,7 @@ module _ (which : N.RowToken) (charset : Charset) (room : ℕ) (all : List N.Col
 -- these rows more are N.counted
 tracks_rows : {s : Progress} (tokens : List Token) (rs : List (List Cell)) → 0 < length rs → N.TracksBefore s tokens
     → N.Tracks (with_rows s (length rs)) (tokens ++ map Row rs)
-tracks_rows _ [] some k = absurd (omega arith)
+tracks_rows _ [] some k = grind arith
 tracks_rows _ (r ∷ []) some k = tracks_row k r
 tracks_rows {s} tokens (r ∷ q ∷ qs) some k =
     let first = tracks_row k r in
@@ -317,7 +316,7 @@ module _ (which : N.RowToken) (charset : Charset) {columns : List N.Column} {aft
       (record u { seen = b; held = after; failed = failed }) stop
   rows_stop y =
       let x = rw shown at y in
-      stops_further (rows_stream _ _ _ _ _ (grind (arith, columns_known)) x.streams) refl
+      stops_further (rows_stream _ _ _ _ _ (grind arith) x.streams) refl
       (row_stops _ _ _ (rows_hold _ _ x.earlier begun.holds) x.stops)
 
 -- ---- tokens by their first bytes
@@ -335,7 +334,7 @@ some_columns = grind arith
 pub begins_lead : {charset : Charset} {room : ℕ} {tokens : List Token} {byte : ℕ} {described : Bool} {bytes : List ℕ} {begun : N.Lead}
     → (N.lead_of byte ≡ Some begun) × N.IsUnder described begun → bytes ≡ N.encoded_after [] tokens → (described ≡ true → N.IsDescription bytes)
     → Describe tokens described → BeginsToken charset room tokens byte (N.in_lead charset (columns_of bytes) begun tokens)
-begins_lead = grind (arith, columns_known, some_columns, start_text)
+begins_lead = grind (arith, some_columns, start_text)
 
 -- the first byte of a token is read, and nothing put for it
 abbrev pub first : {charset : Charset} {room byte : ℕ} {tokens : List Token} {to : Part} {a b : PayloadView} {h : SinkView}
@@ -382,4 +381,4 @@ module _ (charset : Charset) (room : ℕ) {place : ℕ} {tokens : List Token} {a
   -- the payload stopped
   pub stops_between : {stop : Stop} → N.Ends a b [] stop → (stop.fault ≡ N.MessageEnded → ⊥)
       → N.StepStops (response charset room) (after_tokens tokens) a b place h h area failed stop
-  stops_between ends other = stops_quietly refl holds d going (grind (arith, N.cut_at_once))
+  stops_between ends other = stops_quietly refl holds d going (grind arith)
