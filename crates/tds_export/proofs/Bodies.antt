@@ -7,7 +7,7 @@ use N.ResponseLaws.{Agrees, info_is_read, value_agrees, read_inside, stop_inside
 
 -- a text as far as it fits stays within the room
 pub within_room : {s : Space} (text : List ℕ) → s.bytes ≡ [] → s.peak ≤ s.room → (N.appended s (N.whole_within (s.room - length s.bytes) text)).peak ≤ s.room
-within_room = grind (arith, N.length-append, N.length-take, N.utf8_valid_len_le)
+within_room = grind (arith, N.length-take, N.utf8_valid_len_le)
 
 -- ---- RETURNVALUE as it is read, and in its response
 
@@ -44,7 +44,7 @@ pub name_cut : (units : ℕ) {n place : ℕ} {a b : PayloadView} {own stop : Sto
     → stop ≡ N.began_at place own → N.StopsReturn (N.with_return_units units) a b place stop
 name_cut units {n} is fewer ends stop_is =
     let some : N.with_return_units units ≡ N.ReturnName n = grind (arith, N.choose_false, N.ne_eqb) in
-    rw some (record { at = N.ReturnName n; stops = part_cut refl refl fewer ends stop_is })
+    rw some (record { at = N.ReturnName n; stops = grind arith })
 
 -- the name was read
 pub name_read : (units : ℕ) {n place place' : ℕ} {a b : PayloadView} {name : List ℕ} → n ≡ 2 * units → length name ≡ n → Takes a b name n
@@ -131,7 +131,7 @@ module _ (charset : N.Charset) (room : ℕ) {n place middle : ℕ} {tokens : Lis
       → N.Reads (response charset room) (in_length which tokens) a c (N.with_token tokens (N.bodied which body))
   body_reads body len takes holds = record {
     bytes = element ++ body;
-    spelt = body_is_read _ _ _ _ l.two (grind arith) (grind arith) (body_free _ body holds);
+    spelt = body_is_read _ _ _ _ l.two (grind arith) (grind arith) (grind arith);
     takes = N.takes_both a b c _ _ l.takes (rw len takes);
   }
 
@@ -237,5 +237,5 @@ module _ (charset : N.Charset) {tokens : List Token} {s : N.Progress} {u : N.Vie
     -- it was cut
     pub quiet_stops : {own stop : Stop} {part : List ℕ} → length part < n → Ends b c part own → stop ≡ N.began_at middle own
         → StopsQuiet charset (in_length which tokens) u c stop
-    quiet_stops fewer ends is = stops_quietly refl (record { bytes = begun.holds.bytes; peak = begun.holds.peak }) begun.delivered begun.going
+    quiet_stops fewer ends is = stops_quietly refl (grind arith) begun.delivered begun.going
         (after_length _ _ l (grind arith) (omega arith) (part_cut refl refl fewer ends is))
