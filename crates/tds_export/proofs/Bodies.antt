@@ -3,7 +3,7 @@ use Rattle.tds_export.proofs as N
 use N.{List, Some, Space, [], arith, first_error, in_length, length, refl, text, ℕ, ◌++◌, ◌+◌, ◌-◌, ◌<◌, ◌∷◌, ◌≡◌, ◌≤◌, Err, Ok, ReadsReturn, PayloadView}
 use N.{Stop, Takes, if◌then◌else◌, ◌*◌, Bodied, Token, between, response, true, Ends}
 use N.TokenSteps.{OpenTexts, bare_reads, quietly, stops_quietly, ReadsQuiet, StopsQuiet}
-use N.ResponseLaws.{Agrees, info_is_read, value_agrees, read_inside, stop_inside, part_cut, fill_cut, return_agrees, body_free, body_is_read}
+use N.ResponseLaws.{Agrees, info_is_read, value_agrees, read_inside, stop_inside, part_cut, fill_cut, return_agrees, body_is_read}
 
 -- a text as far as it fits stays within the room
 pub within_room : {s : Space} (text : List ℕ) → s.bytes ≡ [] → s.peak ≤ s.room → (N.appended s (N.whole_within (s.room - length s.bytes) text)).peak ≤ s.room

@@ -3,7 +3,7 @@ use Rattle.tds_export.proofs as N
 use N.{Bool, Kind, List, None, Option, Some, arith, least_info, refl, true, ℕ, ◌<◌, ◌==◌, ◌∷◌, ◌≡◌, Cell, CellPart, ChunkData, ChunkLength, Column}
 use N.{Conversion, Null, ShortData, Spelt, Time, WholeCell, WholeRow, Windows1252, [], bit, cell, false, is_valid, length, marked, row, suc, unit, zero}
 use N.{zeros, ⊤, ◌%◌, ◌++◌, ◌+◌, ◌∙◌, ◌≤◌, ColumnHead, InColumn, int_columns, ◌*◌, ◌-◌, Guid, AreBytes, Done, InRow, Open, Token, response}
-use N.ResponseLaws.{spelt_both, spelt_one, spelt_inside, value_agrees, body_free, body_is_read, described_after-append, row_agrees, return_agrees, part_at}
+use N.ResponseLaws.{spelt_both, spelt_one, spelt_inside, value_agrees, body_is_read, described_after-append, row_agrees, return_agrees, part_at}
 use N.SomeBytes.{Ends, exactly, then_ends, AreBytes-append}
 use N.TokenLaws.{bare, bare_body, bare_fixed}
 use N.Words.{named_kind, rest_length, return_value}

@@ -204,10 +204,6 @@ HasColumns (Some columns) = 0 < length columns
 abbrev pub IsFree : Bodied → List ℕ → Type 0
 IsFree which body = (if N.is_notice which && N.not (N.holds_notice body) then Some N.BadNotice else None) ≡ None
 
--- nor of its body, where that holds its inner lengths
-pub body_free : (which : Bodied) (body : List ℕ) → (N.is_notice which ≡ true → N.holds_notice body ≡ true) → IsFree which body
-body_free = grind arith
-
 -- a part by its tokens and where it is read
 abbrev pub part_at : List Token → N.Open → Part
 part_at tokens at = record { tokens = tokens; at = at }

@@ -1,6 +1,6 @@
 -- The tokens, as they are read and their text is put.
 use Rattle.tds_export.proofs as N
-use N.{Bool, Charset, Fault, Grammar, SinkView, IsHolding, List, Option, Part, Progress, Report, PayloadView, Space, Stop, Token, View, [], ap, append-nil}
+use N.{Bool, Charset, Fault, Grammar, SinkView, IsHolding, List, Option, Part, Progress, PayloadView, Space, Stop, Token, View, [], ap, append-nil}
 use N.{arith, between, false, in_metadata, inl, inr, length, refl, sym, text, text_so_far, view_of, with_row, ℕ, ◌++◌, ◌+◌, ◌-◌, ◌<◌, ◌^◌, ◌∙◌, ◌∷◌, ◌≡◌, ◌≤◌}
 use N.{Cell, IsNext, None, Row, RowsPart, Some, append_assoc, map, response, rows, true, after_tokens, columns_of}
 use N.ResponseLaws.{description_agrees, row_agrees, part_at, inside, read_inside, stop_inside}

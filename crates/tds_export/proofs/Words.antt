@@ -26,12 +26,12 @@ unfoldable pub use Rattle.{
   tds_export.specs.Exports.Tells,
 }
 pub use base_laws.Common.{◌≡◌, ◌∙◌, inl, inr, ℕ, ◌+◌, ◌≤◌, List, [], ◌∷◌, ◌++◌, length, take, drop, refl, sym, ap, subst, arith, append_assoc, append-nil}
-pub use base_laws.Common.{take-append-drop, Result, Ok, Err, ◌-◌, ◌^◌, ◌<◌, Bool, false, length-append, zero, suc, ◌%◌, true, replicate, add-one, Option, ◌*◌}
+pub use base_laws.Common.{take-append-drop, Result, Ok, Err, ◌-◌, ◌^◌, ◌<◌, Bool, false, length-append, zero, suc, ◌%◌, true, replicate, Option, ◌*◌}
 pub use base_laws.Common.{slice_index, map, ◌⊎◌, MatchResult, unsigned_abs, length-take, ◌/◌, length-drop, max, take-add, drop-cons, length-take-le, rules}
 pub use base_laws.Common.{take_all}
 pub use base_laws.KnownBytes.{Consumes-nil}
 pub use base_laws.Math.Seq.{get_or-append_seam, take-append_seam, drop-append_seam, take-append-add, get_or-drop}
-pub use base_laws.lemmas.Bool.{ne_eqb, and_parts, eq-eqb, agree_below, agree_below_at}
+pub use base_laws.lemmas.Bool.{ne_eqb, and_parts, agree_below, agree_below_at}
 pub use base_laws.lemmas.Bool.Decides.{nat_tests}
 pub use base_laws.lemmas.Grind.{flat_map-append, common_steps}
 pub use base_laws.lemmas.List.{length-replicate, length-map, map-append, drop-drop, take-append-le}
@@ -61,12 +61,12 @@ pub use values.declared.kind.Kind.{Kind}
 pub use values.declared.kind.Kind.TheVariants.{Guid, Time, DateTime2, DateTimeOffset, Int4}
 pub use values.declared.scalar.ScalarValue.{ScalarValue}
 pub use values.declared.scalar.ValueFault.{ValueFault}
-pub use packet_laws.Choices.{choose, choose_false, eq_true, eq_false, le_true, test_lt, is_some_value}
+pub use packet_laws.Choices.{choose, choose_false, eq_true, eq_false, test_lt, is_some_value}
 pub use packet_laws.ElementLaws.{Spelt-induct, feed-Spelt, feed_all-append, longest_cut, one_longest, read_longest, told, Spelt-append, Spelt-step, Spelt-none}
 pub use packet_laws.ElementLaws.{Inside, Inside-Spelt, AreBytes-front, AreBytes-back, longest_refused, Spelt-one, some_longest, one_state, refused_for_good}
 pub use packet_laws.ElementLaws.{no_further}
 pub use packet_laws.Feeding.{Reading, feed_all, read, state_of, rest_of, fault_of}
-pub use packet_laws.Fronts.{BeginsMessage, EndsMessage, StopsAfterPackets, in_last, takes_begins, ends_front, over_front, wire_goes_on}
+pub use packet_laws.Fronts.{BeginsMessage, EndsMessage, StopsAfterPackets, in_last, takes_begins, ends_front, over_front}
 pub use packet_laws.Futures.{Ends-after, Takes-none, Takes-trans}
 pub use packet_laws.InnerGrammars.{reads_inside, stops_inside, last_inside}
 pub use packet_laws.Joins.{Stays-none}
@@ -111,7 +111,7 @@ pub use text.Cutting.{whole_within}
 pub use text.Joining.{emit}
 pub use text.Quoting.{doubled, quote, joined, line, line_end}
 pub use text.Utf16.{characters}
-pub use csv_laws.Puttings.{PutsPiece-none, PutsPiece-passed, PutsPiece-trans}
+pub use csv_laws.Puttings.{PutsPiece-none, PutsPiece-trans}
 pub use csv_laws.Sinks.{Puts-none, Adds-trans}
 pub use csv_laws.Streams.{breaks_after, breaks_inside, puts_both, puts_inside}
 pub use csv.Sinks.{SinkView, Finishes, held, WritesPrefix, Puts, IsWriting, PutsPiece, Adds, IsOnSameSink, FinishesSink}

@@ -1,6 +1,6 @@
 use Rattle.tds_export.proofs as N
 use N.exporter.Exporter.error.Goals as goal
-use N.{Space, ap, refl, ◌-◌, ◌∙◌, ◌≡◌, ◌≤◌}
+use N.{Space, ap, refl, ◌-◌, ◌∙◌, ◌≤◌}
 use N.TokenSteps.{step_read}
 
 pub returns-in_err-pass_notice : goal.returns-in_err-pass_notice

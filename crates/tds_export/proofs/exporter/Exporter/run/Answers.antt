@@ -1,6 +1,6 @@
 use Rattle.tds_export.proofs as N
 use N.exporter.Exporter.run.Goals as goal
-use N.{refl, rules, true, ◌∙◌, ◌≡◌}
+use N.{refl, rules}
 use N.RunSteps.{completes, runs_none, runs_on, runs_ended, stops_end, stops_on}
 
 pub tokens-init : goal.tokens-init

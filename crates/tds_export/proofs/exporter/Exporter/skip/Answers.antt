@@ -1,6 +1,6 @@
 use Rattle.tds_export.proofs as N
 use N.exporter.Exporter.skip.Goals as goal
-use N.{refl, ◌∙◌, ◌≡◌}
+use N.{refl, ◌∙◌}
 use N.TokenSteps.{begun_in, stops_first}
 
 pub returns-in_err-fill-clause-gives : goal.returns-in_err-fill-clause-gives
