@@ -39,6 +39,8 @@ class Exceptions(unittest.TestCase):
             (Ended(), 4, "the response ends before its last packet"), (FileNotFoundError(2, "No such file", "x"), 5, "x: No such file"),
             (OSError(28, "No space left"), 5, "a read or a write: No space left"), (OSError("odd"), 5, "a read or a write: odd"),
             (KeyboardInterrupt(), 130, "interrupted"), (MemoryError(), 6, "want of memory"),
+            (ImportError("x.so: failed to map segment"), 6, "want of memory, or of a library: x.so: failed to map segment"),
+            (ModuleNotFoundError("No module named '_ssl'"), 5, "Python lacks a module: No module named '_ssl'"),
             (KeyError("x"), 5, "gavyreto failed, which it shouldn't: KeyError: 'x'"), (RecursionError("deep"), 5, "gavyreto failed, which it shouldn't: RecursionError: deep"),
             (Stopped("a\x1b[2J\r\nb\u202e\udcff\x85", 2), 2, "a\\x1b[2J\\x0d\\x0ab\\u202e\\xff\\x85"),
         ]

@@ -138,6 +138,9 @@ def ending_of(failure: BaseException) -> tuple[str, int]:
         return "want of memory", NO_MEMORY
     if isinstance(failure, RuntimeError) and str(failure) == NO_THREAD:
         return "want of memory or processes: no thread can be started", NO_MEMORY
+    if isinstance(failure, ImportError):
+        is_lacking = isinstance(failure, ModuleNotFoundError)
+        return f"{'Python lacks a module' if is_lacking else 'want of memory, or of a library'}: {failure}", FAILED if is_lacking else NO_MEMORY
     if os.environ.get(OF_TESTS):
         raise failure
     return f"gavyreto failed, which it shouldn't: {type(failure).__name__}: {failure}", FAILED
