@@ -349,10 +349,12 @@ def _fed(source: Source, command: list[str], dates: Dates, adapts: Optional[str]
 
 
 def _descriptor_of(source: Any) -> int:
-    """The descriptor of an open file or socket, which has to block. Raises ValueError or OSError if it is closed."""
+    """The descriptor of an open file or socket, which has to block. Raises ValueError or OSError if it is closed, or a folder's."""
     descriptor: int = source if isinstance(source, int) else source.fileno()
     if descriptor < 0:
         raise ValueError("the source is closed")
+    if stat.S_ISDIR(os.fstat(descriptor).st_mode):  # of which Python would leave a copy open
+        raise IsADirectoryError(errno.EISDIR, os.strerror(errno.EISDIR))
     if not os.get_blocking(descriptor):
         raise ValueError("the source doesn't block: use `setblocking(True)` of a socket, or `os.set_blocking`")
     return descriptor

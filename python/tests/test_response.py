@@ -516,6 +516,13 @@ class Sources(unittest.TestCase):
                         with contextlib.suppress(RuntimeError), export(source, adapt=adapts):
                             pass
                     self.assertEqual((kept.filename, opened()), ("/not/here", before), (source, adapts))
+            held = os.open(folder, os.O_RDONLY)
+            self.addCleanup(os.close, held)
+            for adapts in (False, True):
+                before = opened()
+                with self.assertRaises(IsADirectoryError):
+                    export(held, adapt=adapts)
+                self.assertEqual(opened(), before)
 
 
 class Stops(unittest.TestCase):
