@@ -259,7 +259,7 @@ def _reading(source: Source) -> tuple[Read, Callable[[], object]]:
     read, descriptor = _read_of(source), _file_of(source)
     if descriptor < 0:
         return _guarded(_patient(source)) if _is_buffer(source) and type(source) is io.BufferedReader else read, lambda: None
-    held, at = _held_by(source)
+    held, at = (source.peek(), source.tell()) if _is_buffer(source) else (b"", 0)  # type: ignore[union-attr]
     return _watched(read, owned(open(os.dup(descriptor), "rb", buffering=0)), held, at)
 
 
@@ -286,11 +286,6 @@ def _file_of(source: Any) -> int:
 def _is_buffer(source: Any) -> bool:
     """Whether an object is the buffer of a file that is read by its descriptor."""
     return type(getattr(source, "raw", None)) is io.FileIO
-
-
-def _held_by(source: Any) -> tuple[bytes, int]:
-    """What the buffer of a file holds of it, and from which place on."""
-    return (source.peek(), source.tell()) if _is_buffer(source) else (b"", 0)
 
 
 def _patient(source: Any) -> Read:
