@@ -291,7 +291,7 @@ class Outputs(Live):
             came = self.query(f"TRUSTED {words} 'SELECT 1'", ("--record", "sent"))
             self.assertEqual((came.returncode, came.stdout, came.stderr.splitlines()[-1][-13:]), (2, b"", b"an empty name"))
         self.assertFalse(os.path.exists(self.path("sent")))
-        for words in ("columns --table '' orders.tds", "many '' out", "many orders.tds ''", "many --scheduler '' orders.tds out"):
+        for words in ("columns --table '' orders.tds", "columns ''", "adapt ''", "capture '' out", "capture orders.tds ''", "many '' out", "many orders.tds ''", "many --scheduler '' orders.tds out"):
             came = self.beside((), f"{sys.executable} -m gavyreto {words}")
             self.assertEqual((came.returncode, came.stdout, came.stderr.splitlines()[-1][-13:]), (2, b"", b"an empty name"))
         with self.assertRaisesRegex(ValueError, "the system's authorities would be trusted"):

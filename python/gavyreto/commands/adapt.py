@@ -24,7 +24,7 @@ def arguments(words: list[str]) -> argparse.Namespace:
     parser = parser_of("adapt", __doc__)
     parser.add_argument("-o", "--output", metavar="FILE", type=named, action=Once, help="file to write (default: standard output)")
     parser.add_argument("--charset", choices=CHARSETS, default=CHARSETS[0], help="character set of char and varchar within a sql_variant")
-    parser.add_argument("file", metavar="FILE", nargs="?", default="-", help="the response (default, or -: standard input)")
+    parser.add_argument("file", metavar="FILE", nargs="?", type=named, default="-", help="the response (default, or -: standard input)")
     return parser.parse_args(words)
 
 

@@ -40,7 +40,7 @@ from gavyreto.capturing.desk import Answer, Sides
 from gavyreto.capturing.keeping import Kept, Room
 from gavyreto.capturing.messages import is_header
 from gavyreto.commands.common import (
-    SIGNALS, Changed, Input, Progress, Stopped, add_options_of_program, cause_of, check_input, checked_program, command_for, folder_of_texts, line, number_in, parser_of, put, rename, tell,
+    SIGNALS, Changed, Input, Progress, Stopped, add_options_of_program, cause_of, check_input, checked_program, command_for, folder_of_texts, line, named, number_in, parser_of, put, rename, tell,
 )
 from gavyreto.payload import Ended
 from gavyreto.program import BAD_INPUT, DECIDED, DONE, FAILED, REFUSED, SERVER_ERROR, Ending, OutputFailed
@@ -243,8 +243,8 @@ def arguments(words: list[str]) -> argparse.Namespace:
     add("--packets", action="store_true",
         help="keep the packets of each response beside its text, for columns, adapt and many; with --adapt those rewritten")
     add_options_of_program(parser)
-    add("file", metavar="FILE", help="the capture or dump, or - for standard input")
-    add("out", metavar="OUT", help="the folder of the texts, which is made if it isn't there")
+    add("file", metavar="FILE", type=named, help="the capture or dump, or - for standard input")
+    add("out", metavar="OUT", type=named, help="the folder of the texts, which is made if it isn't there")
     return parser.parse_args(words)
 
 

@@ -26,7 +26,7 @@ def arguments(words: list[str]) -> argparse.Namespace:
         "--table", metavar="NAME", type=named, action=Once,
         help="with --as, the name of the table, or SCHEMA.NAME (default: response; response{} for several sets); {} is the number of "
              "the set, from 1")
-    parser.add_argument("file", metavar="FILE", nargs="?", default="-", help="the response (default, or -: standard input)")
+    parser.add_argument("file", metavar="FILE", nargs="?", type=named, default="-", help="the response (default, or -: standard input)")
     asked = parser.parse_args(words)
     if asked.table and asked.form == "csv":
         parser.error(f"--table needs --as {' or --as '.join(TABLES)}")
