@@ -114,7 +114,7 @@ class Channel:
         try:
             self.socket.shutdown(socket.SHUT_WR)
             return bool(self._block or self.receive() or self._is_within)
-        except ssl.SSLError:
+        except (ssl.SSLError, BadAnswer):
             return True
         except OSError:  # it is reset, or isn't ended
             return self._is_within
@@ -132,7 +132,8 @@ class Channel:
         return self._receive()
 
     def _decrypted(self, most: int) -> Optional[bytes]:
-        """The next bytes of those that have come, none at the end of TLS; None if they are no whole record."""
+        """The next bytes of those that have come, none at the end of TLS; None if they are no whole record. Raises BadAnswer if the server begins
+        the handshake of TLS anew, to which nothing is answered."""
         assert self.tls
         self._is_within = self._is_within or self._received.pending > 0
         try:
@@ -140,6 +141,8 @@ class Channel:
         except ssl.SSLZeroReturnError:
             data = b""
         except ssl.SSLWantReadError:
+            if self._to_send.pending:
+                raise BadAnswer("the server begins the handshake of TLS anew within the connection") from None
             return None
         self._is_within = False
         return data

@@ -6,6 +6,7 @@ import fcntl
 import os
 import pty
 import socket
+import ssl
 import stat
 import struct
 import subprocess
@@ -25,6 +26,7 @@ from gavyreto.where import OF_URL, Where
 from gavyreto.commands import query
 from gavyreto.commands.query import arguments, server
 from gavyreto.connection import Channel
+from gavyreto.errors import BadAnswer
 from gavyreto.tds import PacketType
 from tests.beside import ORDERS, SECONDS, Live, answered, ask_port, command_for, listening, log_in, responses, saying_goodbye, served, started, until_closed, wait_for
 
@@ -389,6 +391,21 @@ class Endings(Live):
             wait_for(lambda: fcntl.ioctl(pipe, termios.FIONREAD, bytes(4)) == bytes(4))  # it has read it, and waits for more
             run.send_signal(number)
             self.assertEqual((run.communicate(timeout=SECONDS)[1].decode(), run.returncode), (f"ended by {name}\n", 128 + number))
+
+    def test_a_handshake_that_is_begun_anew(self) -> None:
+        """Nothing is answered to it, so nothing more is waited for."""
+        ours, theirs = socket.socketpair()
+        with ours, theirs:
+            channel = Channel(ours, 0.5)
+
+            def read(_: int) -> bytes:
+                channel._to_send.write(b"a greeting of the client")
+                raise ssl.SSLWantReadError
+
+            channel.tls = mock.Mock(read=read)
+            with self.assertRaisesRegex(BadAnswer, "the server begins the handshake of TLS anew within the connection"):
+                channel.receive()
+            self.assertTrue(channel.finish(0.5))
 
     def test_packets_without_a_body(self) -> None:
         came = self.served(lambda channel: channel.write(tds.packet(PacketType.ANSWER, b"", False) * 1500 + ORDERED))
