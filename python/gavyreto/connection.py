@@ -249,7 +249,7 @@ class Server(NamedTuple):
     port: int
     certified: str  #: the name that its certificate has to have, if that is verified
     encrypt: str
-    context: Callable[[], ssl.SSLContext]  #: is called where something is to be encrypted: it may read all authorities of the system
+    context: Callable[[], ssl.SSLContext]  #: reads files, as all authorities of the system or a FIFO, and so is waited for in time alone
     seconds: float
     login_seconds: float = LOGIN_SECONDS
     until: float = 0.0  #: the end of the login, by the monotonic clock
@@ -365,14 +365,6 @@ def context_of(certificates: Optional[str], trust_server: bool) -> ssl.SSLContex
     return context
 
 
-def contexts_of(certificates: Optional[str], trust_server: bool) -> Callable[[], ssl.SSLContext]:
-    """The same, made at once if a file has to be read for it, or when it is called."""
-    if certificates == "":
-        raise ValueError("certificates is the name of a file, and empty: the system's authorities would be trusted")
-    made = context_of(certificates, trust_server) if certificates else None
-    return lambda: made or context_of(None, trust_server)
-
-
 # What is taken for an answer to a greeting, by the least that is to be encrypted. It isn't authenticated: a byte that is
 # changed on the way could ask for less.
 ENOUGH = {
@@ -406,7 +398,7 @@ def greet(channel: Channel, server: Server, proof: Proof) -> tuple[Encryption, b
     if answered == Encryption.NOT_SUPPORTED and proof.needs_encryption:
         raise EncryptionRefused(NO_TICKETS)
     if answered != Encryption.NOT_SUPPORTED:
-        channel.encrypt(server.context(), server_hostname=server.certified)
+        channel.encrypt(server.in_time(server.context), server_hostname=server.certified)
         channel.expect_nothing()
     return answered, is_required
 
@@ -612,8 +604,13 @@ def log_in_to(
         raise ValueError("a login is by user and password, integrated, or by an access token: one of them")
     proving = functools.partial(proof_of, integrated, None if access_token is None else checked_token(access_token))
     host, _, instance = server.partition("\\")
-    here = Server(host, port, certificate_name or host, encrypt, contexts_of(certificates, trust_server), seconds, login_seconds,
-                  time.monotonic() + login_seconds, instance)
+    if certificates == "":
+        raise ValueError("certificates is the name of a file, and empty: the system's authorities would be trusted")
+    context = functools.lru_cache(functools.partial(context_of, certificates, trust_server))
+    here = Server(host, port, certificate_name or host, encrypt, context, seconds, login_seconds, time.monotonic() + login_seconds, instance)
+    if certificates:
+        with told(here):
+            here.in_time(context)  # what can't be read is told before anything is sent
     login = tds.Login(socket.gethostname(), user, hidden(password), "gavyreto", server, "", "", database, packet_size, intent == INTENTS[1])
     here = here.found()
     channel, accepted = _session(here, login, proving)

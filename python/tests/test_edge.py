@@ -445,6 +445,13 @@ class Endings(Live):
                 self.assert_ends(came, 5, b"", "the login wasn't done within 2 seconds: --login-seconds allows more")
                 self.assertLess(time.monotonic() - began, 10)
 
+    def test_files_that_nobody_writes_or_reads(self) -> None:
+        """A FIFO in place of the log of keys or of certificates is waited for within the login's time."""
+        os.mkfifo(self.path("pipe"))
+        for words, log in ("TRUSTED", "pipe"), ("", "pipe"), ("--certificates pipe", ""):
+            came = self.query(f"{words} --login-seconds 1 'SELECT 1'", SSLKEYLOGFILE=log)
+            self.assert_ends(came, 5, b"", "the login wasn't done within 1 seconds: --login-seconds allows more")
+
     def test_a_server_that_does_not_read(self) -> None:
         """Nobody waits without end for it to take a message, be it that it takes a part now and then within a login."""
         for seconds, limit, pause in ((0.5, 0.0, 0.0), (0.5, 20.0, 0.0), (20.0, 0.5, 0.0), (20.0, 1.0, 0.01)):
