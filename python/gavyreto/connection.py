@@ -353,10 +353,12 @@ def told_of(failure: Union[EOFError, OSError], server: Server) -> ConnectionFail
 
 def context_of(certificates: Optional[str], trust_server: bool) -> ssl.SSLContext:
     """What a server has to show: a certificate for its name, of an authority that is trusted. Raises ValueError if the file of
-    authorities can't be read, or has none."""
+    authorities can't be read, or has none, and ConnectionFailed if there is no memory."""
     try:
         context = ssl.create_default_context(cafile=certificates) if certificates or not trust_server else ssl.SSLContext(ssl.PROTOCOL_TLS_CLIENT)
     except OSError as failure:
+        if not failure.filename and not certificates:
+            raise ConnectionFailed(f"TLS can't be begun: {failure.strerror or failure}") from None
         what = f"SSLKEYLOGFILE: {failure.filename}" if failure.filename else f"the certificates of {certificates} can't be read"
         raise ValueError(f"{what}: {failure.strerror or failure}") from None
     context.maximum_version = ssl.TLSVersion.TLSv1_2  # the greatest within TDS 7.4

@@ -5,6 +5,7 @@ import argparse
 import io
 import os
 import signal
+import ssl
 import subprocess
 import sys
 import tempfile
@@ -17,6 +18,7 @@ from unittest import mock
 from gavyreto import __main__ as entry
 from gavyreto.commands import common
 from gavyreto.commands.common import Stopped
+from gavyreto.connection import context_of
 from gavyreto.errors import BadAnswer, ConnectionFailed, Report, ServerError
 from gavyreto.payload import Ended
 from gavyreto.program import Ending, judged
@@ -48,6 +50,16 @@ class Exceptions(unittest.TestCase):
             with self.subTest(failure=failure):
                 self.assertEqual(self.ended(failure), (status, line + "\n"))
         self.assertEqual(self.ended(SystemExit(2)), (2, ""))
+
+    def test_what_the_system_lacks(self) -> None:
+        """It is no argument that is refused."""
+        lacking = OSError(24, "Too many open files")
+        with mock.patch.object(subprocess, "Popen", side_effect=lacking), self.assertRaises(Stopped) as stop:
+            common.checked_program("true")
+        self.assertEqual((str(stop.exception), stop.exception.status), ("true can't be started: Too many open files", 5))
+        with mock.patch.object(ssl, "SSLContext", side_effect=ssl.SSLError(1, "malloc failure")):
+            self.assertRaisesRegex(ConnectionFailed, "^TLS can't be begun: malloc failure$", context_of, None, True)
+            self.assertRaisesRegex(ValueError, "^the certificates of x can't be read: malloc failure$", context_of, "x", False)
 
     def test_an_unforeseen_one_is_let_out_in_tests_alone(self) -> None:
         with mock.patch.object(entry, "run", side_effect=KeyError("x")), mock.patch.dict(os.environ, {common.OF_TESTS: "1"}), self.assertRaises(KeyError):

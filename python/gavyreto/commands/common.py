@@ -454,4 +454,5 @@ def checked_program(name: str) -> str:
             return path
         raise Stopped(f"{path} isn't tds_replay", REFUSED)
     except OSError as failure:
-        raise Stopped(cause_of(failure), REFUSED) from None
+        is_wrong = failure.filename or not failure.errno  # else it is no matter of this program
+        raise Stopped(cause_of(failure) if is_wrong else f"{name} can't be started: {cause_of(failure)}", REFUSED if is_wrong else FAILED) from None
