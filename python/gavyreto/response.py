@@ -187,16 +187,12 @@ class Response(Sets):
         self.is_whole = is_whole
         if isinstance(said, Error):
             self._raise(said)
-        if said is None or not self._is_text_of(said):
+        read = self._parser
+        if said is None or (said.sets, said.rows, said.written) != (read.sets, read.rows, read.records.length):
             self._raise(ProgramFailed(ending.status if ending.status < OF_SIGNAL else OF_SIGNAL - ending.status, ending.notes))
         if unfinished:
             self._raise(UnfinishedAnswer(unfinished, said))
         self.report = said
-
-    def _is_text_of(self, report: Report) -> bool:
-        """Whether all of the text was read as the program counts it."""
-        read = self._parser
-        return (report.sets, report.rows, report.written) == (read.sets, read.rows, read.records.length)
 
 
 def export(
