@@ -1,6 +1,7 @@
 """Tests of `capture`: connections with lost, doubled and disordered segments, begun in the middle, of two clients."""
 from __future__ import annotations
 
+import argparse
 import csv
 import gzip
 import io
@@ -17,6 +18,8 @@ from typing import BinaryIO, Optional, cast
 from unittest import mock
 
 from gavyreto import tds
+from gavyreto.commands import capture
+from gavyreto.commands.common import Stopped
 from tests.beside import (
     PROGRAM, ROOT, Live, answered, assert_signalled, exported, is_waiting, lines_of, need, need_pymssql, running_in, served, skip, started, stepped, wait_for, wire,
 )
@@ -340,13 +343,16 @@ class Captures(unittest.TestCase):
         self.assertIn(b"no server on port 1434; what looks like TDS is on port 1433: --port names another\n", came.stderr)
 
     def test_what_the_machine_refuses(self) -> None:
-        """A folder whose name isn't UTF-8, and an output that is full: a line and a status."""
+        """A folder whose name isn't UTF-8, and outputs that are full: a line and a status."""
         self.captured(conversation().frames)
         name = os.fsdecode(b"o\xff")
         self.assertEqual((self.run_capture("capture", name).returncode, self.run_capture("capture", name).returncode), (3, 2))
         command = f'exec {sys.executable} -m gavyreto capture --program "{PROGRAM}" capture other > /dev/full'
         came = subprocess.run(["sh", "-c", command], cwd=self.folder, capture_output=True, check=False, **started())
         self.assertEqual((came.returncode, came.stderr), (5, b"standard output: No space left on device\n"))
+        export = capture.Export(argparse.Namespace(out="out", charset="utf-8"), mock.Mock())
+        with mock.patch.object(capture, "Adapter", side_effect=OSError(27, "File too large")), self.assertRaisesRegex(Stopped, "^out: File too large$"):
+            export._adapt(os.path.join(self.folder, "capture"))
 
     def test_a_signal_leaves_nothing_under_way(self) -> None:
         """SIGTERM, while the command waits for the rest of a capture."""

@@ -40,7 +40,7 @@ from gavyreto.capturing.desk import Answer, Sides
 from gavyreto.capturing.keeping import Kept, Room
 from gavyreto.capturing.messages import is_header
 from gavyreto.commands.common import (
-    SIGNALS, Changed, Input, Progress, Stopped, add_options_of_program, cause_of, check_input, checked_program, command_for, folder_of_texts, line, named, number_in, parser_of, put, rename, tell,
+    SIGNALS, Changed, Input, Progress, Stopped, add_options_of_program, cause_of, check_input, checked_program, command_for, folder_of_texts, line, named, naming, number_in, parser_of, put, rename, tell,
 )
 from gavyreto.payload import Ended
 from gavyreto.program import BAD_INPUT, DECIDED, DONE, FAILED, REFUSED, SERVER_ERROR, Ending, OutputFailed
@@ -106,7 +106,7 @@ class Export:
     def _adapt(self, packets: str) -> None:
         """Rewrites columns that the program refuses. What can't be followed stays as it is, and the program says why."""
         adapted = packets + ".adapted"
-        with contextlib.suppress(ValueError, Ended):
+        with contextlib.suppress(ValueError, Ended), naming(self._asked.out):
             with open(packets, "rb") as source, open(adapted, "wb") as target:
                 Adapter(source.read, target.write, self._asked.charset).run()
             os.replace(adapted, packets)
