@@ -1,7 +1,7 @@
 -- What a cell's spelling is read as.
 use Rattle.tds_cells.proofs as N
-use N.{◌≡◌, ◌⊎◌, ℕ, ◌+◌, ◌-◌, ◌/◌, ◌%◌, ◌^◌, ◌<◌, ◌≤◌, true, List, [], ◌∷◌, ◌++◌, length, refl, ◌∙◌, ap, arith, Ok, Option, Some, ◌==◌, ◌||◌, if◌then◌else◌}
-use N.{concat, Kind, little, Conversion, unit, is_fit, Spelt, Spelt-step, Spelt-append, Null, DataCell, Total, WholeCell, cell}
+use N.{Conversion, DataCell, Kind, List, Null, Ok, Spelt, Spelt-append, Spelt-step, WholeCell, [], ap, arith, cell, concat, is_fit, length, refl, true, ℕ, ◌%◌}
+use N.{◌++◌, ◌+◌, ◌-◌, ◌/◌, ◌<◌, ◌==◌, ◌^◌, ◌||◌, ◌∙◌, ◌∷◌, ◌≡◌, ◌≤◌}
 
 -- a fixed shape has bytes
 abbrev pub HasBytes : N.Shape → Type 0
@@ -36,22 +36,18 @@ module _ (column : ℕ) where
       Spelt-append _ _ _ _ _ _ one
       (rw N.append_assoc at (short_data c (d ++ x ∷ []) y ys k))
 
-  short_length : (c : Conversion) (n : ℕ) → n < 65535 → n % unit c ≡ 0
-      → Spelt (cell column) (N.ShortLength c) (n % 256 ∷ n / 256 ∷ []) (if n == 0 then WholeCell (DataCell c []) else N.ShortData c (n - 1) [])
-  short_length c n less even =
-      Spelt-step _ _ _ _ (omega arith) refl (grind arith)
-      (grind arith)
+  short_length : (c : Conversion) (n : ℕ) → n < 65535 → n % N.unit c ≡ 0 → 0 < n
+      → Spelt (cell column) (N.ShortLength c) (n % 256 ∷ n / 256 ∷ []) (N.ShortData c (n - 1) [])
+  short_length = grind (arith, Spelt-step)
 
   short_cell : (c : Conversion) (d bytes : List ℕ) → is_fit c d ≡ true → length d < 65535 → bytes ≡ (length d % 256 ∷ length d / 256 ∷ []) ++ d
       → Spelt (cell column) (N.ShortLength c) bytes (WholeCell (DataCell c d))
-  short_cell c [] bytes h least counted = rw counted (short_length c 0 (omega arith) (grind arith))
+  short_cell c [] bytes h least counted = rw counted (Spelt-step _ _ _ _ (omega arith) refl (grind arith) refl)
   short_cell c (x ∷ xs) _ h least counted =
-      let to = N.choose_false _ _ _ (N.ne_eqb (length (x ∷ xs)) 0 (λ q. omega arith)) ∙ ap (λ k. N.ShortData c k []) (omega arith) in
-      let head = N.subst (λ v. Spelt (cell column) (N.ShortLength c) (length (x ∷ xs) % 256 ∷ length (x ∷ xs) / 256 ∷ []) v) to
-      (short_length c _ least (N.fit_units c _ h)) in
-      rw counted (Spelt-append _ _ _ _ _ _ head (short_data c [] x xs h))
+      let less : length (x ∷ xs) - 1 ≡ length xs = omega arith in
+      rw counted (Spelt-append _ _ _ _ _ _ (rw less at (short_length c _ least (N.fit_units c _ h) (omega arith))) (short_data c [] x xs h))
 
-  chunk_data : (c : Conversion) (total : Option ℕ) (d : List ℕ) (x : ℕ) (xs more : List ℕ) → is_fit c ((d ++ x ∷ xs) ++ more) ≡ true
+  chunk_data : (c : Conversion) (total : N.Option ℕ) (d : List ℕ) (x : ℕ) (xs more : List ℕ) → is_fit c ((d ++ x ∷ xs) ++ more) ≡ true
       → Spelt (cell column) (N.ChunkData c total (length xs) d) (x ∷ xs) (N.ChunkLength c total (d ++ x ∷ xs))
   chunk_data c _ d x [] more h = Spelt-step _ _ _ _ (omega arith) refl (unless_true _ (N.fit_begins c _ _ h)) refl
   chunk_data c total d x (y ∷ ys) more h =
@@ -59,7 +55,7 @@ module _ (column : ℕ) where
       Spelt-append _ _ _ _ _ _ (Spelt-step _ _ _ _ (omega arith) refl (unless_true _ begun) (search N.rules))
       (rw N.append_assoc at (chunk_data c total (d ++ x ∷ []) y ys more (rw (N.append_assoc d) h)))
 
-  chunk_cell : (c : Conversion) (total : Option ℕ) (d content bytes more : List ℕ) → is_fit c ((d ++ content) ++ more) ≡ true
+  chunk_cell : (c : Conversion) (total : N.Option ℕ) (d content bytes more : List ℕ) → is_fit c ((d ++ content) ++ more) ≡ true
       → N.within_total total (length d + length content) ≡ true → N.SpellsChunk content bytes
       → Spelt (cell column) (N.ChunkLength c total d) bytes (N.ChunkLength c total (d ++ content))
   chunk_cell c _ d [] bytes more f w s = grind arith
@@ -70,7 +66,7 @@ module _ (column : ℕ) where
       (grind arith) (rw n (search N.rules)) in
       rw (N.sym s.spelt) at (Spelt-append _ _ _ _ _ _ head (chunk_data c _ d x _ _ f))
 
-  chunks_cell : (c : Conversion) (total : Option ℕ) (d : List ℕ) (ds : List (List ℕ)) (bytes : List ℕ)
+  chunks_cell : (c : Conversion) (total : N.Option ℕ) (d : List ℕ) (ds : List (List ℕ)) (bytes : List ℕ)
       → ((n : ℕ) → n ≤ length (d ++ concat ds) → N.within_total total n ≡ true) → N.is_total total (length (d ++ concat ds)) ≡ true
       → is_fit c (d ++ concat ds) ≡ true → N.SpellsChunks ds bytes
       → Spelt (cell column) (N.ChunkLength c total d) bytes (WholeCell (DataCell c (d ++ concat ds)))
@@ -88,22 +84,15 @@ module _ (column : ℕ) where
       rw s.2 (Spelt-append _ _ s.0 _ s.1 _ one more)
 
   chunked_cell : {c : Conversion} {d bytes : List ℕ} → is_fit c d ≡ true → N.SpellsChunked d bytes
-      → Spelt (cell column) (Total c) bytes (WholeCell (DataCell c d))
-  chunked_cell {c} {d} f s = rw s.spelt (go s.known)
-    where
-      from : (t : Option ℕ) → N.known_total (little s.total) ≡ t → little s.total < 2 ^ 64 - 1
-          → (N.nat_le (2 ^ 64 - 2) (little s.total) || (little s.total % unit c == 0)) ≡ true → ((n : ℕ) → n ≤ length d → N.within_total t n ≡ true)
-          → N.is_total t (length d) ≡ true → Spelt (cell column) (Total c) (s.total ++ s.rest) (WholeCell (DataCell c d))
-      from t known less even within whole =
-          let more = rw s.all at (chunks_cell c t [] s.chunks s.rest (rw s.all within) (rw s.all whole) (rw s.all f) s.each) in
-          Spelt-append _ _ s.total _ s.rest _ (Spelt-step _ _ s.total _ (omega (arith, s.eight)) s.eight (unless_true _ even) (grind arith)) more
-
-      go : (little s.total ≡ 2 ^ 64 - 2) ⊎ ((little s.total ≡ length d) × (length d < 2 ^ 64 - 2))
-          → Spelt (cell column) (Total c) (s.total ++ s.rest) (WholeCell (DataCell c d))
-      go (N.inl u) = from N.None (ap N.known_total u) (omega arith) (rw u) (λ n h. refl) refl
-      go (N.inr k) =
-          let even : (little s.total % unit c == 0) ≡ true = rw (k.0, N.fit_units c d f) in
-          from (Some (length d)) (grind arith) (omega arith) (N.or_right _ _ even) (λ n few. grind arith) (grind arith)
+      → Spelt (cell column) (N.Total c) bytes (WholeCell (DataCell c d))
+  chunked_cell {c} {d} f s =
+      let total = N.known_total (N.little s.total) in
+      let even : (N.nat_le (2 ^ 64 - 2) (N.little s.total) || (N.little s.total % N.unit c == 0)) ≡ true = grind (arith, N.or_right) in
+      let within : (n : ℕ) → n ≤ length d → N.within_total total n ≡ true = grind arith in
+      let whole : N.is_total total (length d) ≡ true = grind arith in
+      let more = rw s.all at (chunks_cell c total [] s.chunks s.rest (rw s.all within) (rw s.all whole) (rw s.all f) s.each) in
+      let first = Spelt-step _ _ s.total _ (omega (arith, s.eight)) s.eight (unless_true _ even) (grind arith) in
+      rw s.spelt (Spelt-append _ _ s.total _ s.rest _ first more)
 
   -- What spells a cell is read as that cell.
   pub cell_is_read : (kind : Kind) (sh : N.Shape) (x : N.Cell) (bytes : List ℕ) → HasBytes sh → N.SpellsCell kind sh x bytes

@@ -1,14 +1,14 @@
 -- What the bytes that lead to a part of a cell spell.
 use Rattle.tds_cells.proofs as N
-use N.{◌≡◌, ℕ, ◌+◌, ◌-◌, ◌/◌, ◌%◌, ◌^◌, ◌<◌, true, List, [], ◌∷◌, ◌++◌, length, refl, ◌∙◌, ap, append_assoc, arith, Ok, Option, None, ◌&&◌, ◌||◌, if◌then◌else◌}
-use N.{Kind, Short, Chunked, little, AreBytes, Shape, LongShape, cell_add}
+use N.{AreBytes, Chunked, Kind, List, LongShape, Ok, Option, Shape, Short, [], append_assoc, arith, cell_add, length, little, true, ℕ, ◌%◌, ◌&&◌, ◌++◌, ◌+◌}
+use N.{◌-◌, ◌/◌, ◌<◌, ◌==◌, ◌^◌, ◌||◌, ◌∷◌, ◌≡◌}
 
 -- a test that gave no fault passed
-pub unless_none : (b : N.Bool) (f : N.Fault) → N.unless b f ≡ None → b ≡ true
-unless_none b f h = grind arith
+pub unless_none : (b : N.Bool) (f : N.Fault) → N.unless b f ≡ N.None → b ≡ true
+unless_none = grind arith
 
 eight_below : (e : List ℕ) → length e ≡ 8 → AreBytes e → little e < 2 ^ 64
-eight_below e l k = grind (arith, N.common_steps)
+eight_below = grind (arith, N.common_steps)
 
 pub eight_ones : (e : List ℕ) → length e ≡ 8 → AreBytes e → little e ≡ 2 ^ 64 - 1 → e ≡ N.replicate 8 255
 eight_ones (a ∷ b ∷ c ∷ d ∷ e ∷ f ∷ g ∷ h ∷ []) l k n = grind arith
@@ -19,26 +19,14 @@ abbrev pub BeginsChunks : List (List ℕ) → List ℕ → Type 0
 BeginsChunks [] bytes = bytes ≡ []
 BeginsChunks (d ∷ ds) bytes = (front : List ℕ) × (rest : List ℕ) × (bytes ≡ front ++ rest) × N.SpellsChunk d front × BeginsChunks ds rest
 
-more_chunks : (ds : List (List ℕ)) (bytes d front : List ℕ) → BeginsChunks ds bytes → N.SpellsChunk d front
+pub more_chunks : (ds : List (List ℕ)) (bytes d front : List ℕ) → BeginsChunks ds bytes → N.SpellsChunk d front
     → BeginsChunks (ds ++ d ∷ []) (bytes ++ front)
 more_chunks [] bytes d front h s = search N.rules
-more_chunks (x ∷ ds) _ d front h s = (
-  h.0,
-  h.1 ++ front,
-  rw (h.2, append_assoc),
-  h.3,
-  more_chunks ds h.1 d front h.4 s,
-)
+more_chunks (x ∷ ds) _ d front h s = grind (arith, append_assoc, (more_chunks ds h.1 d front h.4 s))
 
-end_chunks : (ds : List (List ℕ)) (bytes : List ℕ) → BeginsChunks ds bytes → N.SpellsChunks ds (bytes ++ 0 ∷ 0 ∷ 0 ∷ 0 ∷ [])
+pub end_chunks : (ds : List (List ℕ)) (bytes : List ℕ) → BeginsChunks ds bytes → N.SpellsChunks ds (bytes ++ 0 ∷ 0 ∷ 0 ∷ 0 ∷ [])
 end_chunks [] bytes h = cc
-end_chunks (x ∷ ds) _ h = (
-  h.0,
-  h.1 ++ 0 ∷ 0 ∷ 0 ∷ 0 ∷ [],
-  rw (h.2, append_assoc),
-  h.3,
-  end_chunks ds h.1 h.4,
-)
+end_chunks (x ∷ ds) _ h = grind (arith, append_assoc, (end_chunks ds h.1 h.4))
 
 pub record ChunksMean (total : Option ℕ) (content bytes : List ℕ) : Type 0 where
   pub first : List ℕ
@@ -77,43 +65,27 @@ CellMeans kind (LongShape c Chunked) (N.ChunkData c' total left d) b = (c' ≡ c
 CellMeans kind sh part b = ⊥
 
 pub is_ok_value : {r : N.Result N.ScalarValue N.ValueFault} → N.is_ok r ≡ true → (v : N.ScalarValue) × (r ≡ Ok v)
-is_ok_value h = grind arith
-
--- a test that gave no fault passed, and nor did what follows it
-pub guard_none : {b : N.Bool} {o : Option N.Fault} (f : N.Fault) → (if b then o else N.Some f) ≡ None → (b ≡ true) × (o ≡ None)
-guard_none f h = grind arith
+is_ok_value = grind arith
 
 module _ (column : ℕ) (kind : Kind) where
   value_means : (sh : Shape) (e b : List ℕ) → N.is_ok (N.read_of kind e) ≡ true
       → ((v : N.ScalarValue) → N.read_of kind e ≡ Ok v → N.SpellsCell kind sh (N.ScalarCell v) b) → CellMeans kind sh (N.value_part (N.read_of kind e)) b
-  value_means _ e b h k = grind arith
+  value_means = grind arith
 
   short_means : (c : N.Conversion) {n : ℕ} (left : ℕ) {d b : List ℕ} (x : ℕ) → n ≡ length d + (left + 1) → n < 65535
       → b ≡ (n % 256 ∷ n / 256 ∷ []) ++ d → (N.is_begun c (d ++ x ∷ []) && (N.nat_lt 0 left || N.is_fit c (d ++ x ∷ []))) ≡ true
       → CellMeans kind (LongShape c Short) (cell_add (N.ShortData c left d) (x ∷ [])) (b ++ x ∷ [])
-  short_means c _ x count less is free = grind (arith, N.length-append)
+  short_means = grind (arith, N.length-append)
 
   chunk_means : (c : N.Conversion) (total : Option ℕ) (d b e : List ℕ) → length e ≡ 4 → ChunksMean total d b
-      → N.cell_fault column (N.ChunkLength c total d) e ≡ None → CellMeans kind (LongShape c Chunked) (cell_add (N.ChunkLength c total d) e) (b ++ e)
+      → N.cell_fault column (N.ChunkLength c total d) e ≡ N.None → CellMeans kind (LongShape c Chunked) (cell_add (N.ChunkLength c total d) e) (b ++ e)
   chunk_means c total d b e four m free =
-      N.choose (λ p. CellMeans kind (LongShape c Chunked) p (b ++ e)) _ _ _ (λ z.
-      let end = N.sym (ap (λ t. (if t then N.end_of_chunks column c total d else N.unless (N.within_total total (length d + little e)) (N.PlpLength column))) z)
-      ∙ free in
-      let e0 : e ≡ 0 ∷ 0 ∷ 0 ∷ 0 ∷ [] = grind (arith, N.common_steps) in (grind (arith, unless_none, guard_none, append_assoc, end_chunks)))
+      N.choose (λ p. CellMeans kind (LongShape c Chunked) p (b ++ e)) (little e == 0) _ _ (λ z.
+      let e0 : e ≡ 0 ∷ 0 ∷ 0 ∷ 0 ∷ [] = grind (arith, N.common_steps) in (grind (arith, unless_none, append_assoc, end_chunks)))
       (λ z.
       let some = N.eq_false _ 0 z in (
-        refl,
-        record {
-          before = d;
-          whole = b;
-          chunks = m;
-          header = e;
-          part = [];
-          spelt = search N.rules;
-          four = four;
-          counted = omega arith;
-          all = search N.rules;
-        },
+        N.refl,
+        record { before = d; whole = b; chunks = m; header = e; part = []; spelt = search N.rules; four = four; counted = omega arith; all = search N.rules },
       ))
 
   data_means : (c : N.Conversion) (total : Option ℕ) (left : ℕ) (d b : List ℕ) (x : ℕ) → ChunkMeans total left d b
@@ -124,7 +96,7 @@ module _ (column : ℕ) (kind : Kind) where
       let all : d ++ x ∷ [] ≡ m.before ++ (m.part ++ x ∷ []) = rw (m.all, append_assoc) in
       N.choose (λ p. CellMeans kind (LongShape c Chunked) p (b ++ x ∷ [])) _ _ _ (λ z.
       let one : N.SpellsChunk (m.part ++ x ∷ []) (m.header ++ (m.part ++ x ∷ [])) = grind arith in (
-        refl,
+        N.refl,
         record {
           first = m.chunks.first;
           chunks = m.chunks.chunks ++ (m.part ++ x ∷ []) ∷ [];
@@ -139,17 +111,17 @@ module _ (column : ℕ) (kind : Kind) where
       )) (λ z. let some = N.eq_false left 0 z in (grind arith))
 
   short_length_means : (c : N.Conversion) (e : List ℕ) → length e ≡ 2 → AreBytes e → CellMeans kind (LongShape c Short) (cell_add (N.ShortLength c) e) e
-  short_length_means c e two bytes = grind (arith, N.no_data_is_fit, N.two_bytes)
+  short_length_means = grind (arith, N.no_data_is_fit, N.two_bytes)
 
   total_means : (c : N.Conversion) (e : List ℕ) → length e ≡ 8 → AreBytes e → CellMeans kind (LongShape c Chunked) (cell_add (N.Total c) e) e
-  total_means c e eight bytes = grind (arith, N.append-nil, eight_below, eight_ones)
+  total_means = grind (arith, N.append-nil, eight_below, eight_ones)
 
   pub cell_step : (sh : Shape) (p : N.CellPart) (b e : List ℕ) → AreBytes e → CellMeans kind sh p b → N.IsNext (N.cell column) p e
       → CellMeans kind sh (cell_add p e) (b ++ e)
   cell_step _ p b e bytes h n = grind (arith, N.one_byte, chunk_means, data_means, short_length_means, short_means, total_means, unless_none, value_means)
 
 pub start_means : (kind : Kind) (sh : Shape) → CellMeans kind sh (N.cell_start kind sh) []
-start_means _ _ = grind arith
+start_means = grind arith
 
 pub cell_is_spelt : {x : N.Cell} {bytes : List ℕ} {column : ℕ} (kind : Kind) (sh : Shape) → AreBytes bytes
     → N.Spelt (N.cell column) (N.cell_start kind sh) bytes (N.WholeCell x) → N.SpellsCell kind sh x bytes

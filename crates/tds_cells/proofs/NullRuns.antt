@@ -1,23 +1,21 @@
 -- NULLs by their bits, in columns after one another.
 use Rattle.tds_cells.proofs as N
-use N.{◌≡◌, ◌∙◌, ◌==◌, ℕ, ◌+◌, ◌*◌, ◌-◌, ◌≤◌, ◌<◌, Bool, List, [], ◌++◌, zero, suc, length, take, refl, arith, Column}
-use Rattle.std.proofs.Common.{add-suc}
-use Rattle.std.proofs.lemmas.Bool.Decides.{nat_tests}
+use N.{Bool, Column, List, [], arith, in_line, length, refl, suc, zero, ℕ, ◌*◌, ◌++◌, ◌+◌, ◌-◌, ◌<◌, ◌==◌, ◌≡◌, ◌≤◌}
 
 -- a column that is NULL by its bit
 null_column : (charset : N.Charset) (columns : List Column) (nulls : ℕ → Bool) (k : ℕ) → k < length columns → nulls k ≡ N.true
-    → N.WritesColumn charset columns nulls k [] (N.in_line k (k + 1 == length columns) N.null_field)
+    → N.WritesColumn charset columns nulls k [] (in_line k (k + 1 == length columns) N.null_field)
 null_column _ columns nulls k within null =
     let c : Column = grind arith in
     let column = N.get_or columns k c in
     let next = N.drop_more columns k c within in
     let last = N.RowFormatSteps.last_one columns (N.drop (k + 1) columns) column k (length columns) refl next in
-    record { column = column; left = N.drop (k + 1) columns; next = next; null = grind arith; cell = λ isnt. absurd (cc) }
+    grind arith
 
 -- the text of so many, none of which is the first or the last of its row
 abbrev pub nulls_text : ℕ → List ℕ
 nulls_text zero = []
-nulls_text (suc n) = nulls_text n ++ N.in_line 1 N.false N.null_field
+nulls_text (suc n) = nulls_text n ++ in_line 1 N.false N.null_field
 
 nulls_length : (n : ℕ) → length (nulls_text n) ≡ 5 * n
 nulls_length zero = refl
@@ -25,18 +23,18 @@ nulls_length (suc n) = grind (arith, nulls_length n, N.length-append)
 
 nulls_both : (n m : ℕ) → nulls_text (n + m) ≡ nulls_text n ++ nulls_text m
 nulls_both n zero = rw (N.add-zero, N.append-nil)
-nulls_both n (suc m) = rw (add-suc, nulls_both n m, N.append_assoc)
+nulls_both n (suc m) = rw (N.add-suc, nulls_both n m, N.append_assoc)
 
 -- of eight the first ones
-pub first_nulls : (n : ℕ) (rest : List ℕ) → n ≤ 8 → take (5 * n) (nulls_text 8 ++ rest) ≡ nulls_text n
+pub first_nulls : (n : ℕ) (rest : List ℕ) → n ≤ 8 → N.take (5 * n) (nulls_text 8 ++ rest) ≡ nulls_text n
 first_nulls n rest few =
     let all : n + (8 - n) ≡ 8 = omega arith in
     let text : nulls_text 8 ++ rest ≡ nulls_text n ++ (nulls_text (8 - n) ++ rest) = rw (← N.append_assoc, ← nulls_both, all) in
     rw (text, ← nulls_length n) (N.take-append_seam (nulls_text n) _)
 
 -- the text of NULL neither first nor last in its row
-inner_null : (k n : ℕ) → 0 < k → k + 1 < n → N.in_line k (k + 1 == n) N.null_field ≡ N.in_line 1 N.false N.null_field
-inner_null _ _ some within = grind (arith, nat_tests)
+inner_null : (k n : ℕ) → 0 < k → k + 1 < n → in_line k (k + 1 == n) N.null_field ≡ in_line 1 N.false N.null_field
+inner_null = grind arith
 
 -- columns that are NULL by their bit, after the first and before the last
 pub nulls_inside : (nulls : ℕ → Bool) (from n count : ℕ) → 0 < from → from + n < count → N.BitsAre N.true nulls from (from + n)
@@ -48,7 +46,7 @@ nulls_inside nulls from (suc n) count some within set charset columns counted =
       [],
       [],
       nulls_text n,
-      N.in_line 1 N.false N.null_field,
+      in_line 1 N.false N.null_field,
       refl,
       refl,
       nulls_inside nulls from n count some (omega arith) (λ k least most. set k least (omega arith)) charset columns counted,
@@ -57,7 +55,7 @@ nulls_inside nulls from (suc n) count some within set charset columns counted =
 
 -- the next column alone
 pub null_alone : (nulls : ℕ → Bool) (at count : ℕ) → at < count → nulls at ≡ N.true → (charset : N.Charset) (columns : List Column)
-    → length columns ≡ count → N.WritesMarked charset columns nulls at 1 [] (N.in_line at (at + 1 == count) N.null_field)
+    → length columns ≡ count → N.WritesMarked charset columns nulls at 1 [] (in_line at (at + 1 == count) N.null_field)
 null_alone nulls at count within null charset columns counted =
     let one = rw counted at (null_column charset columns nulls at (omega arith) null) in
-    (grind (arith, N.add-zero))
+    (grind arith)

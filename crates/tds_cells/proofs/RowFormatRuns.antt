@@ -1,67 +1,44 @@
 -- Runs of cells over the columns that a row format knows: more cells after those that were written.
 use Rattle.tds_cells.proofs as N
-use N.{arith, false, ◌∷◌, ◌≡◌, ◌∙◌, ap, ℕ, ◌+◌, ◌-◌, ◌<◌, ◌≤◌, List, ◌++◌, length, take, drop, Column, Cursor, Ran, Unmarked, RowFormat, suc, Bool, sym}
-use N.{KnownRan, RunsMarked, inl, ◌⊎◌, ◌==◌, ◌≢◌, CellFormat, IsCursor, Knows, inr, true, [], refl}
-use N.RunSteps.{made_more, marked_writes, rows_both, rows_none, rows_onward, used_more, unused}
-use N.FormatSteps.{some_first}
-use N.RowFormatSteps.{TakesColumn}
-use Rattle.std.proofs.lemmas.List.{get_or-drop}
-
--- Between two places of rows, over the ends of so many, these bytes are their cells, and this is their text.
-abbrev pub RowsBetween : RowFormat → List Column → Cursor → Cursor → ℕ → List ℕ → List ℕ → Type 0
-RowsBetween row_format columns old new count bytes text = IsCursor row_format columns new
-    × ((charset : N.Charset) (cells : List N.Cell) → row_format.charset ≡ charset → length cells ≡ old.column
-    → N.WritesRows charset columns cells (drop old.column columns) (drop new.column columns) new.column count bytes text)
+use N.{Bool, Column, Cursor, IsCursor, KnownRan, KnownRun, List, Ran, RowFormat, RunsMarked, Unmarked, Walk, arith, drop, false, length, map, suc, sym, take, ℕ}
+use N.{◌++◌, ◌+◌, ◌-◌, ◌<◌, ◌==◌, ◌∷◌, ◌≡◌, ◌≤◌}
+use N.RunSteps.{made_more, marked_writes, rows_both, rows_none, rows_onward, unused, used_more}
 
 pub rows_begin : {row_format : RowFormat} {from : Cursor} {bytes to : List ℕ}
     → Ran row_format Unmarked from from bytes to (record { used = 0; made = 0; rows = 0 })
 rows_begin = grind (arith, rows_none)
 
--- the token byte of a ROW is next
-begins_at : (used : ℕ) (bytes : List ℕ) → N.BeginsRow (unused used bytes) → (used < length bytes)
-    × (N.get_or bytes used 0 ≡ 0xD1)
-begins_at _ _ begins = grind (arith, N.drop_more)
-
 -- one row more, after its token byte
 pub row_begun : {row_format : RowFormat} {from start at : Cursor} {bytes to : List ℕ} {run : N.RowsSpan} → 0 < row_format.count
     → row_format.count ≤ at.column
     → N.BeginsRow (unused run.used bytes) × (start.column ≡ 0)
-    → ((columns : List Column) → Knows row_format columns → IsCursor row_format columns at → IsCursor row_format columns start)
+    → ((columns : List Column) → N.Knows row_format columns → IsCursor row_format columns at → IsCursor row_format columns start)
     → Ran row_format Unmarked from at bytes to run → Ran row_format Unmarked from start bytes to
     (record { used = run.used + 1; made = run.made; rows = run.rows + 1 })
-row_begun {at = at} {bytes = bytes} {run = run} some end (begins, first) ahead x =
-    let (within, byte) = begins_at run.used bytes begins in
-    record {
-      used = omega arith;
-      made = x.made;
-      few = omega arith;
-      writes = λ columns knows is.
-          let y = x.writes columns knows is in
-          let none = N.RowFormatSteps.none_next columns at.column knows.counted end in (
-            ahead columns knows y.0,
-            λ charset cells set counted. rw first
-                (rows_onward run.used bytes (omega arith) none within byte (y.1 charset cells set counted)),
-          );
-    }
+row_begun {bytes = bytes} {run = run} some end (begins, first) ahead x = record {
+  used = grind arith;
+  made = x.made;
+  few = omega arith;
+  writes = λ columns knows is.
+      let y = x.writes columns knows is in (
+        ahead columns knows y.0,
+        λ charset cells set counted. rw first
+            (rows_onward run.used bytes (omega arith) (N.RowFormatSteps.none_next columns _ knows.counted end) begins (y.1 charset cells set counted)),
+      );
+}
 
--- more cells of the last row
-more_in_rows : {row_format : RowFormat} {columns : List Column} {old new : Cursor} {count : ℕ} {a b p q : List ℕ} (from : Cursor)
-    → RowsBetween row_format columns from old count a p → RunsMarked row_format columns (λ k. false) old new b q
-    → RowsBetween row_format columns from new count (a ++ b) (p ++ q)
-more_in_rows from x y = grind (arith, marked_writes)
-
--- the same of what a run over rows has done, in the bytes that are left and after what was made
+-- more cells of the last row, in the bytes that are left and after what was made
 pub rows_more : {row_format : RowFormat} {from at new : Cursor} {bytes to : List ℕ} {run : N.RowsSpan} (u made : ℕ) (text after : List ℕ) → 0 < u
     → u ≤ length (unused run.used bytes) → made ≤ length after → take made after ≡ take run.made to ++ text
     → N.CellsWritten row_format (λ k. false) at new (take u (unused run.used bytes)) text → Ran row_format Unmarked from at bytes to run
     → Ran row_format Unmarked from new bytes after (record { used = run.used + u; made = made; rows = run.rows })
-rows_more {from = from} {bytes = bytes} {run = run} u _ _ _ _ within fits is gives x = record {
+rows_more {bytes = bytes} {run = run} u _ _ _ _ within fits is gives x = record {
   used = grind (arith, N.length-take);
   made = fits;
   few = omega arith;
   writes = λ columns knows begun.
       let y = x.writes columns knows begun in
-      rw (used_more run.used u bytes, is) (more_in_rows from y (gives columns knows y.0));
+      rw (used_more run.used u bytes, is) (grind (arith, marked_writes));
 }
 
 -- ---- the cells of an NBCROW
@@ -97,24 +74,19 @@ module _ (charset : N.Charset) (columns : List Column) where
       (x.0, x.1, x.2, x.3, x.4, x.5, marked_clear _ _ n _ _ (grind arith) x.6, one)
 
 module _ {row_format : RowFormat} {columns : List Column} {nulls : ℕ → Bool} {at : Cursor} where
-  pub runs_column : {after : Cursor} {kind : N.Kind} {last : Bool} {bytes text : List ℕ} → TakesColumn row_format columns at after kind
+  pub runs_column : {after : Cursor} {kind : N.Kind} {last : Bool} {bytes text : List ℕ} → N.RowFormatSteps.TakesColumn row_format columns at after kind
       → last ≡ N.is_last_column (drop after.column columns) → nulls at.column ≡ false
       → N.WritesWhole (N.cell_start kind (N.shape row_format.charset kind)) at.column last bytes text → RunsMarked row_format columns nulls at after bytes text
   runs_column {bytes = bytes} {text = text} taken end clear whole =
       let one : N.WritesColumn _ columns nulls _ bytes text =
       record { column = taken.column; left = drop _ columns; next = taken.next; null = λ is. absurd (cc); cell = λ _. rw (taken.kind, end) at whole } in
-      record {
-        count = 1;
-        ahead = taken.ahead;
-        further = cc;
-        writes = grind arith;
-      }
+      grind arith
 
 module _ {row_format : RowFormat} {columns : List Column} {nulls : ℕ → Bool} {from to : Cursor} where
   -- a run over columns whose bits are clear
   pub runs_clear : {bytes text : List ℕ} → ((k : ℕ) → from.column ≤ k → k < to.column → nulls k ≡ false)
       → RunsMarked row_format columns (λ k. false) from to bytes text → RunsMarked row_format columns nulls from to bytes text
-  runs_clear clear x = grind (arith, marked_clear)
+  runs_clear = grind (arith, marked_clear)
 
   -- more cells, in the bytes that are left and after what was made
   pub runs_more : (at : Cursor) (used u made m : ℕ) (bytes text new cells : List ℕ) → take m new ≡ take made text ++ cells
@@ -138,15 +110,14 @@ ends_clear _ _ at bytes room clear x columns column left knows ahead next = let 
 
 -- some of the first ones
 part_of : {A B : Type 0} (k n known : ℕ) (f : A → B) (xs : List A) → k + n ≤ known
-    → N.map f (take n (drop k xs)) ≡ drop k (take (k + n) (N.map f (take known xs)))
-part_of k n known f xs within = grind (arith, N.take-map, N.drop-map, N.take-take, N.drop-take)
+    → map f (take n (drop k xs)) ≡ drop k (take (k + n) (map f (take known xs)))
+part_of = grind (arith, N.take-map, N.drop-map, N.take-take, N.drop-take)
 
 -- those that a row format knows, from a place in a row on
-pub known_ahead : (row_format : RowFormat) (at : Cursor) (end : ℕ) (n : ℕ) → N.Each (λ f. N.IsLaidOut row_format.charset f.kind f.layout) row_format.formats.now
-    → row_format.known ≤ length row_format.formats.now → 0 < n
-    → at.column + n ≤ end → at.column + n ≤ row_format.known → row_format.known ≤ row_format.count
+pub known_ahead : (row_format : RowFormat) (at : Cursor) (end n : ℕ) → 0 < n → at.column + n ≤ end → at.column + n ≤ row_format.known
     → N.AreAtCursor row_format at end (take n (drop at.column row_format.formats.now))
-known_ahead row_format at end n laid fits some within known few =
+known_ahead row_format at end n some within known =
+    let laid = row_format.laid in
     let len = N.length-take-le n (drop at.column row_format.formats.now) (grind (arith, N.length-drop)) in
     record {
       laid = grind (arith, N.common_steps);
@@ -157,77 +128,56 @@ known_ahead row_format at end n laid fits some within known few =
           (sym (part_of at.column n _ (λ c. c.kind) columns known));
     }
 
--- no cell was written where no byte was used
-pub none_written : {cells used : ℕ} → (0 < cells → 0 < used) → used ≡ 0 → cells ≡ 0
-none_written some none = grind arith
+module _ {row_format : RowFormat} {from : Cursor} {end : ℕ} {formats : List N.CellFormat} (ahead : N.AreAtCursor row_format from end formats) where
+  -- what was written by them is between two places of the row
+  formats_between : {columns : List Column} {to : Cursor} {ends : Bool} {bytes text : List ℕ} {room : ℕ} {run : N.FormatsRun}
+      → ends ≡ (from.column + length formats == row_format.count) → N.Knows row_format columns → IsCursor row_format columns from
+      → to.column ≡ from.column + run.cells → IsCursor row_format columns to
+      → N.RunsFormats row_format.charset formats from.column ends bytes room text run
+      → RunsMarked row_format columns (λ k. false) from to (take run.used bytes) (take run.made text)
+  formats_between {columns} {run = run} end knows is further there x =
+      let whole = N.length-drop from.column columns in
+      record { count = run.cells; ahead = there; further = further; writes = x.cells columns (ahead.next columns knows is) (grind arith) }
 
-module _ (row_format : RowFormat) (from : Cursor) (end : ℕ) (formats : List CellFormat) (within : end ≤ row_format.count)
-    (ahead : N.AreAtCursor row_format from end formats) where
-  module _ (ends : Bool) (end_is : ends ≡ (from.column + length formats == row_format.count)) where
-    -- what was written by them is between two places of the row
-    pub formats_between : (columns : List Column) → Knows row_format columns → IsCursor row_format columns from
-        → (to : Cursor) (bytes text : List ℕ) (run : N.FormatsRun) → to.column ≡ from.column + run.cells → IsCursor row_format columns to
-        → ((all : List Column) → N.map (λ f. f.kind) formats ≡ N.map (λ c. c.kind) (take (length formats) (drop from.column all))
-        → ends ≡ (length formats == length (drop from.column all))
-        → N.WritesMarked row_format.charset all (λ k. false) from.column run.cells (take run.used bytes) (take run.made text))
-        → RunsMarked row_format columns (λ k. false) from to (take run.used bytes) (take run.made text)
-    formats_between _ knows is _ _ _ _ further there x = grind (arith, N.length-drop)
-
-  pub first_left : {bytes : List ℕ} {room : ℕ} → N.FirstLeft row_format.charset formats bytes room
-      → (columns : List Column) (column : Column) (left : List Column) → Knows row_format columns → IsCursor row_format columns from
-      → drop from.column columns ≡ column ∷ left
-      → (room < 66) ⊎ ((false ≡ false) × N.IsLeft row_format.charset column.kind bytes room)
-  first_left x columns column _ knows is step =
-      let first = some_first _ ahead.some in
+  -- the next cell is left as the first of them is
+  pub first_left : {bytes : List ℕ} {room : ℕ} → N.FirstLeft row_format.charset formats bytes room → N.EndsLeft row_format (λ k. false) from bytes room
+  first_left x columns column left knows is step =
+      let first = N.FormatSteps.some_first _ ahead.some in
       let y = x first.0 first.1 first.2 in
       grind arith
 
   -- the cell after so many is left as the first of the others is
-  pub next_left : {bytes : List ℕ} {room : ℕ} (k : ℕ) → N.FirstLeft row_format.charset (drop k formats) bytes room → k < length formats
-      → (columns : List Column) (column : Column) (left : List Column) → Knows row_format columns → IsCursor row_format columns from
-      → drop (from.column + k) columns ≡ column ∷ left → (room < 66) ⊎ N.IsLeft row_format.charset column.kind bytes room
-  next_left k x some columns column left knows is step =
-      let (format, rest, are) = some_first (drop k formats) (omega (arith, some, N.length-drop k formats)) in
+  pub next_left : {bytes : List ℕ} {room : ℕ} (to : Cursor) (k : ℕ) → to.column ≡ from.column + k
+      → N.FirstLeft row_format.charset (drop k formats) bytes room → N.LeavesNext row_format from to (from.column + length formats) bytes room
+  next_left to k further x columns column left knows is some step =
+      let (format, rest, are) = N.FormatSteps.some_first (drop k formats) (omega (arith, N.length-drop k formats)) in
       let next = drop from.column columns in
-      let there : drop k next ≡ column ∷ left = N.drop-drop k from.column columns ∙ step in
+      let there : drop k next ≡ column ∷ left = grind (arith, N.drop-drop) in
+      let second = N.RowFormatSteps.next_column next k there in
       let place : k ≡ k + 0 = omega arith in
-      let first : N.get_or formats k format ≡ format = grind (arith, get_or-drop) in
-      let second : N.get_or next k column ≡ column = grind (arith, get_or-drop) in
-      let kinds_are : N.map (λ f. f.kind) (take (length formats) formats) ≡ N.map (λ c. c.kind) (take (length formats) next) =
-      grind (arith, N.take_all) in
-      let further : k < length next = omega (arith, ap length there, N.length-drop k next) in
-      let kind_is = rw (first, second) at (N.RowFormatSteps.known_kind formats next (length formats) k format column kinds_are some (omega arith) further) in
-      elim (x format rest are) [ inl few ↦ inl few | inr y ↦ inr (rw kind_is at y) ]
+      let first : N.get_or formats k format ≡ format = grind (arith, N.get_or-drop) in
+      let kinds_are : map (λ f. f.kind) (take (length formats) formats) ≡ map (λ c. c.kind) (take (length formats) next) = grind (arith, N.take_all) in
+      let kind_is = N.RowFormatSteps.known_kind formats next (length formats) k format column kinds_are (omega arith) (omega arith) second.0 in
+      let y = x format rest are in
+      grind arith
 
 -- ---- rows that are far from the ends
 
 -- two places of a row, all of whose columns the row format knows, are ahead alike
 pub place_known : (row_format : RowFormat) (from : Cursor) (a b : ℕ) → row_format.known ≡ row_format.count → b ≤ row_format.count
-    → (columns : List Column) → Knows row_format columns → IsCursor row_format columns (record from { column = a })
+    → (columns : List Column) → N.Knows row_format columns → IsCursor row_format columns (record from { column = a })
     → IsCursor row_format columns (record from { column = b })
-place_known _ _ _ _ all few columns knows is = record { counted = omega arith; within = λ _. is.within (omega arith); beyond = grind arith }
+place_known = grind arith
 
--- the formats of the rest of such a row
-pub rest_ahead : (row_format : RowFormat) (at : Cursor) (row : List CellFormat) → row_format.known ≡ row_format.count → row
-    ≡ take row_format.known row_format.formats.now
-    → at.column < row_format.count
-    → N.AreAtCursor row_format at row_format.count (drop at.column row) × (at.column + length (drop at.column row) ≡ row_format.count)
-rest_ahead row_format at row all are some =
-    let n = row_format.known - at.column in
-    let split : row_format.known ≡ at.column + n = omega arith in
-    let rest : drop at.column row ≡ take n (drop at.column row_format.formats.now) = grind (arith, N.drop-take) in
-    let counted = N.length-take-le n (drop at.column row_format.formats.now) (omega
-    (arith, N.length-drop at.column row_format.formats.now, row_format.there)) in (grind (arith, known_ahead))
-
-abbrev known_span : N.KnownRun → N.RowsSpan
+abbrev known_span : KnownRun → N.RowsSpan
 known_span run = record { used = run.used; made = run.made; rows = run.rows }
 
 module _ {row_format : RowFormat} {column : ℕ} {bytes to : List ℕ} where
-  pub ran_at : {run : N.KnownRun} → KnownRan row_format column bytes to run
-      → (walk : N.Walk) → Ran row_format Unmarked (N.place walk column) (N.place walk run.column) bytes to (known_span run)
-  ran_at x walk = record { used = x.used; made = x.made; few = x.few; writes = x.writes walk }
+  pub ran_at : {run : KnownRun} → KnownRan row_format column bytes to run
+      → (walk : Walk) → Ran row_format Unmarked (N.place walk column) (N.place walk run.column) bytes to (known_span run)
+  ran_at = grind arith
 
-  pub known_ran : {run : N.KnownRun} → ((walk : N.Walk) → Ran row_format Unmarked (N.place walk column) (N.place walk run.column) bytes to (known_span run))
+  pub known_ran : {run : KnownRun} → ((walk : Walk) → Ran row_format Unmarked (N.place walk column) (N.place walk run.column) bytes to (known_span run))
       → KnownRan row_format column bytes to run
   known_ran x = let y = x row_format.rest in record { used = y.used; made = y.made; few = y.few; writes = λ walk. (x walk).writes }
 
@@ -235,19 +185,19 @@ module _ {row_format : RowFormat} {column : ℕ} {bytes to : List ℕ} where
   known_begin = known_ran (λ walk. rows_begin)
 
   -- one row more, after its token byte
-  pub known_begun : {run : N.KnownRun} → row_format.known ≡ row_format.count → 0 < row_format.count → row_format.count ≤ run.column
+  pub known_begun : {run : KnownRun} → row_format.known ≡ row_format.count → 0 < row_format.count → row_format.count ≤ run.column
       → N.BeginsRow (unused run.used bytes) → KnownRan row_format column bytes to run
       → KnownRan row_format column bytes to (record { used = run.used + 1; made = run.made; rows = run.rows + 1; column = 0 })
-  known_begun {run} all some end begins x = known_ran (λ walk. row_begun some end (begins, refl)
+  known_begun {run} all some end begins x = known_ran (λ walk. row_begun some end (begins, N.refl)
       (place_known row_format (N.place walk run.column) run.column 0 all (omega arith)) (ran_at x walk))
 
   -- what stands after what was made may be another
-  pub known_kept : {new : List ℕ} {run : N.KnownRun} → length new ≡ length to → take run.made new ≡ take run.made to
+  pub known_kept : {new : List ℕ} {run : KnownRun} → length new ≡ length to → take run.made new ≡ take run.made to
       → KnownRan row_format column bytes to run → KnownRan row_format column bytes new run
-  known_kept same is x = grind arith
+  known_kept = grind arith
 
   -- a run, and then another from where it ended
-  pub known_further : {run more : N.KnownRun} (text rest : List ℕ) → KnownRan row_format column bytes to run
+  pub known_further : {run more : KnownRun} (text rest : List ℕ) → KnownRan row_format column bytes to run
       → KnownRan row_format run.column (unused run.used bytes) text more
       → KnownRan row_format column bytes (take run.made to ++ (text ++ rest))
       (record { used = run.used + more.used; made = run.made + more.made; rows = run.rows + more.rows; column = more.column })
@@ -266,19 +216,30 @@ module _ {row_format : RowFormat} {column : ℕ} {bytes to : List ℕ} where
         );
   }
 
+-- a run over the formats of the rest of the last row
+pub known_formats : {row_format : RowFormat} {column used column' : ℕ} {bytes to : List ℕ} {run : KnownRun} (formats : List N.CellFormat) (more : N.FormatsRun)
+    (room made : ℕ) (text new : List ℕ) → row_format.known ≡ row_format.count
+    → ((walk : Walk) → N.AreAtCursor row_format (N.place walk run.column) row_format.count formats)
+    → run.column + length formats ≡ row_format.count → 0 < more.cells → made ≤ length new → take made new ≡ take run.made to ++ take more.made text
+    → used ≡ run.used + more.used → column' ≡ run.column + more.cells
+    → N.RunsFormats row_format.charset formats run.column N.true (unused run.used bytes) room text more → KnownRan row_format column bytes to run
+    → KnownRan row_format column bytes new (record { used = used; made = made; rows = run.rows; column = column' })
+known_formats {row_format} {run = run} formats more room made text new all ahead whole some fits is used_is column_is written x =
+    rw (used_is, column_is) (known_ran (λ walk.
+    let to = N.place walk (run.column + more.cells) in
+    rows_more {new = to} {run = known_span run} more.used made (take more.made text) new (written.within.some some) written.within.used fits is
+    (λ columns knows there. formats_between (ahead walk) (sym (N.eq-eqb _ _ whole)) knows there N.refl (grind arith) written) (ran_at x walk)))
+
 -- a whole row more, whose place is counted from the front of all
-pub row_far : {bytes to : List ℕ} {rows used made : ℕ} (row_format : RowFormat) (row : List CellFormat) (run : N.FormatsRun) (new : List ℕ)
+pub row_far : {bytes to : List ℕ} {rows used made : ℕ} (row_format : RowFormat) (row : List N.CellFormat) (run : N.FormatsRun) (new : List ℕ)
     → row_format.known ≡ row_format.count → 0 < row_format.count → row ≡ take row_format.known row_format.formats.now → run.cells ≡ row_format.count
     → take made new ≡ take made to → length new ≡ length to → (used ≤ run.used) × (made ≤ run.made)
-    → N.RunsFormats row_format.charset row 0 true (drop used bytes) (length to - made) (drop made new) (N.run_since (record { used = used; made = made }) run)
+    → N.RunsFormats row_format.charset row 0 N.true (drop used bytes) (length to - made) (drop made new) (N.run_since (record { used = used; made = made }) run)
     → KnownRan row_format 0 bytes to (record { used = used; made = made; rows = rows; column = 0 })
     → KnownRan row_format 0 bytes new (record { used = run.used; made = run.made; rows = rows; column = row_format.count })
-row_far {bytes = bytes} {used = u} {made = m} row_format row run new all some are whole same size begun written x =
-    let used : run.used ≡ u + (run.used - u) = omega arith in
-    let end : m + (run.made - m) ≡ run.made = omega arith in
+row_far {bytes = bytes} {to = to} {used = u} {made = m} row_format row run new all some are whole same size begun written x =
     let text = N.take-add m (run.made - m) new in
-    rw used (known_ran (λ walk.
-    let next = rest_ahead row_format (N.place walk 0) row all are some in
-    rows_more (run.used - u) run.made (take (run.made - m) (drop m new)) new (written.within.some (omega arith))
-    (rw (N.all_after bytes u) written.within.used) (omega (arith, written.within.made, N.length-drop m new)) (grind arith)
-    (rw (N.all_after bytes u) (grind (arith, formats_between, N.eq-eqb, place_known))) (ran_at x walk)))
+    known_formats row (N.run_since (record { used = u; made = m }) run) (length to - m) run.made (drop m new) new all (λ walk. rw are (known_ahead row_format
+    (N.place walk 0) row_format.count row_format.known (omega arith) (omega arith) (omega arith)))
+    (omega (arith, N.ap length are, N.length-take-le row_format.known row_format.formats.now row_format.there))
+    (omega arith) (omega (arith, written.within.made, N.length-drop m new)) (grind arith) (omega arith) (omega arith) (rw (N.all_after bytes u) written) x

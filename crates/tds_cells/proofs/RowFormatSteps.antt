@@ -1,7 +1,6 @@
 -- A row format of columns, column by column.
 use Rattle.tds_cells.proofs as N
-use N.{◌≡◌, ◌⊎◌, ◌&&◌, ◌∙◌, ℕ, ◌+◌, ◌≤◌, ◌<◌, List, [], ◌∷◌, length, take, drop, get_or, sym, ap, arith, map, ◌==◌, Kind, Column, columns_left, Cursor}
-use N.{CellFormat, IsCursor}
+use N.{CellFormat, Column, Cursor, IsCursor, Kind, List, [], ap, arith, drop, get_or, length, map, take, ℕ, ◌&&◌, ◌+◌, ◌<◌, ◌==◌, ◌∙◌, ◌∷◌, ◌≡◌, ◌≤◌}
 use Rattle.tds_columns.specs.declared.walk.Column as walks
 
 -- what is ahead begins with the next column
@@ -9,13 +8,13 @@ pub next_column : (columns : List Column) (k : ℕ) {c : Column} {rest : List Co
     × ((get_or columns k c ≡ c) × (drop (k + 1) columns ≡ rest))
 next_column columns k {c} h =
     let within : k < length columns = omega (arith, N.length-drop k columns, ap length h) in
-    let more = sym (N.drop_more columns k c within) ∙ h in
+    let more = N.sym (N.drop_more columns k c within) ∙ h in
     (grind arith)
 
 pub first_more : (formats : List CellFormat) (columns : List Column) (k : ℕ) (f : CellFormat) {c : Column} {rest : List Column} → k < length formats
     → map (λ f. f.kind) (take k formats) ≡ map (λ c. c.kind) (take k columns) → drop k columns ≡ c ∷ rest → f.kind ≡ c.kind
     → map (λ f. f.kind) (take (k + 1) (N.slice_set formats k f)) ≡ map (λ c. c.kind) (take (k + 1) columns)
-first_more _ _ k f within first h is = grind (arith, N.common_steps, next_column)
+first_more = grind (arith, N.common_steps, next_column)
 
 -- whether one more column is of such a kind too
 pub all_more : (of : Kind → N.Bool) (columns : List Column) (k : ℕ) {all one : N.Bool} {c : Column} {rest : List Column} → drop k columns ≡ c ∷ rest
@@ -50,14 +49,9 @@ module _ (row_format : N.RowFormat) (columns : List Column) (at : Cursor) (kind 
       }
 
 module _ {row_format : N.RowFormat} {columns : List Column} {old new : Cursor} (knows : N.Knows row_format columns) (is : IsCursor row_format columns old) where
-  -- the place after columns that the row format knows
-  pub after_known : {cells : ℕ} → new.column ≡ old.column + cells → old.column + cells ≤ row_format.count → (cells ≡ 0)
-      ⊎ (old.column + cells ≤ row_format.known) → columns_left new.walk ≡ columns_left old.walk → IsCursor row_format columns new
-  after_known further _ known same = grind arith
-
   -- the place after a column that the walk gives
   pub after_walked : new.column ≡ old.column + 1 → old.column + 1 ≤ row_format.count → row_format.known ≤ old.column
-      → columns_left new.walk ≡ drop 1 (columns_left old.walk) → IsCursor row_format columns new
+      → N.columns_left new.walk ≡ drop 1 (N.columns_left old.walk) → IsCursor row_format columns new
   after_walked further some beyond steps =
       record {
         counted = omega arith;
@@ -65,11 +59,6 @@ module _ {row_format : N.RowFormat} {columns : List Column} {old new : Cursor} (
         beyond = λ _. steps ∙ ap (drop 1) (is.beyond beyond) ∙ N.drop-drop 1 old.column columns
             ∙ ap (λ (n : ℕ). drop n columns) (omega arith);
       }
-
--- what a walk leaves after its next column
-pub walk_after : (walk new : N.Walk) (column : N.Option walks.Column) → N.YieldsFirstBy N.column_value columns_left walk column new
-    → columns_left new ≡ drop 1 (columns_left walk)
-walk_after _ _ _ y = grind arith
 
 -- A column was taken, the next one ahead, and this is its kind.
 pub record TakesColumn (row_format : N.RowFormat) (columns : List Column) (old new : Cursor) (next_kind : Kind) : Type 0 where
@@ -81,11 +70,11 @@ pub record TakesColumn (row_format : N.RowFormat) (columns : List Column) (old n
 
 pub takes : {row_format : N.RowFormat} {columns : List Column} {old new : Cursor} {kind : Kind} → N.NextColumn columns old kind → new.column ≡ old.column + 1
     → IsCursor row_format columns new → TakesColumn row_format columns old new kind
-takes x further ahead = grind (arith, next_column)
+takes = grind (arith, next_column)
 
 -- a place in a row that isn't at its end is before it
 pub not_end : (columns : List Column) {k n : ℕ} → n ≡ length columns → k ≤ length columns → (k == n) ≡ N.false → k < n
-not_end _ whole within isnt = grind arith
+not_end = grind arith
 
 -- a column is the last one where as many as there are lie before what is after it
 pub last_one : (columns rest : List Column) (c : Column) (k n : ℕ) → n ≡ length columns → drop k columns ≡ c ∷ rest
@@ -95,8 +84,4 @@ last_one columns (d ∷ ds) c k n whole next = N.ne_eqb _ n (λ e. omega (arith,
 
 -- none is next where as many as there are lie before
 pub none_next : (columns : List Column) (k : ℕ) {n : ℕ} → n ≡ length columns → n ≤ k → drop k columns ≡ []
-none_next _ k whole all = grind (arith, N.drop_all)
-
--- as many lie before where the place is the row's end
-pub all_before : {k n : ℕ} → N.true ≡ (k == n) → n ≤ k
-all_before is = grind arith
+none_next = grind (arith, N.drop_all)

@@ -1,22 +1,15 @@
 -- What the bytes that lead to a part of a row spell.
 use Rattle.tds_cells.proofs as N
-use N.{◌≡◌, ℕ, Bool, true, false, List, [], ◌∷◌, ◌++◌, length, refl, sym, ◌∙◌, ap, arith, AreBytes, Column, Cell, SpellsMarked, marked, RowPart, Bitmap, row}
+use N.{AreBytes, Bitmap, Bool, Cell, Column, List, RowPart, [], arith, false, length, marked, refl, row, true, ℕ, ◌++◌, ◌∙◌, ◌∷◌, ◌≡◌}
 
 module _ (charset : N.Charset) where
-  one_more_null : (ks : List (Column × Bool)) (cs : List Cell) (b : List ℕ) (k : Column) → SpellsMarked charset ks cs b
-      → SpellsMarked charset (ks ++ (k, true) ∷ []) (cs ++ N.Null ∷ []) b
-  one_more_null [] [] b k h = (refl, h)
-  one_more_null ((j, true) ∷ ks) (c ∷ cs) b k h = (h.0, one_more_null ks cs b k h.1)
-  one_more_null ((j, false) ∷ ks) (c ∷ cs) b k h = (h.0, h.1, h.2, h.3, one_more_null ks cs h.1 k h.4)
-  one_more_null _ _ b k h = absurd h
-
-  one_more_cell : (ks : List (Column × Bool)) (cs : List Cell) (b : List ℕ) (k : Column) (c : Cell) (e : List ℕ) → SpellsMarked charset ks cs b
-      → N.SpellsCell k.kind (N.shape charset k.kind) c e → SpellsMarked charset (ks ++ (k, false) ∷ []) (cs ++ c ∷ []) (b ++ e)
-  one_more_cell [] [] b k c e h s = search N.rules
-  one_more_cell ((j, true) ∷ ks) (d ∷ cs) b k c e h s = (h.0, one_more_cell ks cs b k c e h.1 s)
-  one_more_cell ((j, false) ∷ ks) (d ∷ cs) b k c e h s =
-      (h.0, h.1 ++ e, rw (h.2, N.append_assoc), h.3, one_more_cell ks cs h.1 k c e h.4 s)
-  one_more_cell _ _ b k c e h s = absurd h
+  marked_both : (ks ls : List (Column × Bool)) (cs ds : List Cell) (b e : List ℕ) → N.SpellsMarked charset ks cs b → N.SpellsMarked charset ls ds e
+      → N.SpellsMarked charset (ks ++ ls) (cs ++ ds) (b ++ e)
+  marked_both [] ls [] ds b e h s = rw h s
+  marked_both ((j, true) ∷ ks) ls (c ∷ cs) ds b e h s = (h.0, marked_both ks ls cs ds b e h.1 s)
+  marked_both ((j, false) ∷ ks) ls (c ∷ cs) ds b e h s =
+      (h.0, h.1 ++ e, rw (h.2, N.append_assoc), h.3, marked_both ks ls cs ds h.1 e h.4 s)
+  marked_both _ _ _ _ b e h s = absurd h
 
   -- the bytes spell the whole cells of the marked columns, and the part of the next one
   pub record CellsMean (all : List (Column × Bool)) (cells : List Cell) (part : N.CellPart) (ks : List (Column × Bool)) (bytes : List ℕ) : Type 0 where
@@ -26,20 +19,21 @@ module _ (charset : N.Charset) where
     pub rest : List ℕ
     pub split : all ≡ (before ++ (column, false) ∷ []) ++ ks
     pub spelt : bytes ≡ front ++ rest
-    pub whole : SpellsMarked charset before cells front
+    pub whole : N.SpellsMarked charset before cells front
     pub begun : N.CellMeaning.CellMeans column.kind (N.shape charset column.kind) part rest
 
   -- the part of a row in these marked columns
   abbrev pub MarkedMean : List (Column × Bool) → RowPart → List ℕ → Type 0
   MarkedMean all (Bitmap columns) bytes = ⊥
   MarkedMean all (N.InCell cells part ks) bytes = CellsMean all cells part ks bytes
-  MarkedMean all (N.WholeRow cells) bytes = SpellsMarked charset all cells bytes
+  MarkedMean all (N.WholeRow cells) bytes = N.SpellsMarked charset all cells bytes
 
-  next_means : (all before ks : List (Column × Bool)) (cells : List Cell) (b : List ℕ) → all ≡ before ++ ks → SpellsMarked charset before cells b
+  next_means : (all before ks : List (Column × Bool)) (cells : List Cell) (b : List ℕ) → all ≡ before ++ ks → N.SpellsMarked charset before cells b
       → MarkedMean all (N.next_cell charset cells ks) b
   next_means _ _ [] cells b split h = search N.rules
   next_means all before ((k, true) ∷ ks) cells b split h =
-      next_means all (before ++ (k, true) ∷ []) ks _ b (split ∙ sym (N.append_assoc before _ ks)) (one_more_null before cells b k h)
+      next_means all (before ++ (k, true) ∷ []) ks _ b (split ∙ N.sym (N.append_assoc before _ ks))
+      (rw N.append-nil at (marked_both before ((k, true) ∷ []) cells (N.Null ∷ []) b [] h (refl, refl)))
   next_means _ before ((k, false) ∷ ks) _ b split h =
       record {
         before = before;
@@ -54,11 +48,11 @@ module _ (charset : N.Charset) where
 
   with_means : {all : List (Column × Bool)} {cells : List Cell} {part : N.CellPart} {ks : List (Column × Bool)} {b : List ℕ}
       → CellsMean all cells part ks b → MarkedMean all (N.with_cell charset cells ks part) b
-  with_means h = grind (arith, next_means, one_more_cell)
+  with_means = grind (arith, next_means, marked_both, N.append-nil)
 
   marked_step : (all : List (Column × Bool)) {p : RowPart} (b e : List ℕ) → AreBytes e → MarkedMean all p b → N.IsNext (row charset) p e
       → MarkedMean all (N.row_add charset p e) (b ++ e)
-  marked_step _ b e bytes h n = grind (arith, N.append_assoc, N.CellMeaning.cell_step, with_means)
+  marked_step = grind (arith, N.append_assoc, N.CellMeaning.cell_step, with_means)
 
   -- what the bytes after the token byte of a row spell: of a ROW, or of an NBCROW
   abbrev pub RowMeans : List Column → Bool → RowPart → List ℕ → Type 0
@@ -70,10 +64,10 @@ module _ (charset : N.Charset) where
   module _ (columns : List Column) where
     from_marked : (part : RowPart) (bitmap rest bytes : List ℕ) → bytes ≡ bitmap ++ rest → length bitmap ≡ N.bitmap_length (length columns)
         → MarkedMean (marked columns (N.bit bitmap) 0) part rest → RowMeans columns true part bytes
-    from_marked _ _ _ _ e l h = grind arith
+    from_marked = grind arith
 
     from_plain : (part : RowPart) (bytes : List ℕ) → MarkedMean (marked columns (λ k. false) 0) part bytes → RowMeans columns false part bytes
-    from_plain _ _ h = grind arith
+    from_plain = grind arith
 
     pub row_step : (nbc : Bool) (p : RowPart) (b e : List ℕ) → AreBytes e → RowMeans columns nbc p b → N.IsNext (row charset) p e
         → RowMeans columns nbc (N.row_add charset p e) (b ++ e)

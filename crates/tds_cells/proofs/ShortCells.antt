@@ -1,18 +1,17 @@
 -- Cells of short values whose bytes lie together.
 use Rattle.tds_cells.proofs as N
-use N.{◌≡◌, ◌≢◌, ◌∙◌, ℕ, ◌+◌, ◌/◌, ◌%◌, ◌<◌, ◌≤◌, [], ◌∷◌, ◌++◌, length, take, drop, arith}
+use N.{[], arith, drop, length, take, ℕ, ◌%◌, ◌++◌, ◌+◌, ◌/◌, ◌<◌, ◌∙◌, ◌∷◌, ◌≡◌, ◌≢◌, ◌≤◌}
 use N.CellLaws.{cell_is_read}
-use Rattle.byteorder.specs.Endian.{little_number}
 
 module _ (column : ℕ) (kind : N.Kind) (c : N.Conversion) (last : N.Bool) (bytes text : N.List ℕ) (within : 2 ≤ length bytes) (low : N.slice_index bytes 0 < 256)
     (high : N.slice_index bytes 1 < 256) where
-  pub short_null : little_number 2 bytes ≡ 65535 → text ≡ N.in_line column last N.null_field → N.WritesWhole (N.ShortLength c) column last (take 2 bytes) text
+  pub short_null : N.little_number 2 bytes ≡ 65535 → text ≡ N.in_line column last N.null_field → N.WritesWhole (N.ShortLength c) column last (take 2 bytes) text
   short_null all is =
       let a : N.slice_index bytes 0 ≡ 255 = omega arith in
       let b : N.slice_index bytes 1 ≡ 255 = omega arith in
       record { value = N.Null; spelt = cell_is_read column kind (N.LongShape c N.Short) N.Null _ tt (grind arith ∙ (λ i. a i ∷ b i ∷ [])); text_is = is }
 
-  pub short_value : (n : ℕ) → n ≡ little_number 2 bytes → n ≢ 65535 → 2 + n ≤ length bytes → N.is_fit c (take n (drop 2 bytes)) ≡ N.true
+  pub short_value : (n : ℕ) → n ≡ N.little_number 2 bytes → n ≢ 65535 → 2 + n ≤ length bytes → N.is_fit c (take n (drop 2 bytes)) ≡ N.true
       → text ≡ N.in_line column last (N.long_field c (take n (drop 2 bytes)))
       → N.WritesWhole (N.ShortLength c) column last (take (2 + n) bytes) text
   short_value n counted some all fit is =

@@ -140,7 +140,7 @@ pub record TellsLeft (row_format : RowFormat) (bytes : List ℕ) (room : ℕ) (r
   pub ends : run.left ≡ true → (walk : Walk)
       → EndsLeft row_format (nulls_of Unmarked) (place walk run.run.column) (drop run.run.used bytes) (room - run.run.made)
 
--- One that doesn't ended where bytes or room are too few for any scalar, or after a row.
+-- A run that doesn't say so ended where bytes or room are too few for any scalar, or after a row.
 abbrev pub EndsShort : RowFormat → List ℕ → ℕ → FarRun → Type 0
 EndsShort row_format bytes room run = run.left ≡ false
     → (length (drop run.run.used bytes) < 19) ⊎ ((room - run.run.made < 66) ⊎ (row_format.count ≤ run.run.column))

@@ -1,10 +1,7 @@
 use Rattle.tds_cells.proofs as N
-use N.chunks.open.Goals as goal
-use N.SeveralChunks.{opens_binary, opens_quoted}
-use N.{arith}
 
-pub returns-in-Binary-clause-text : goal.returns-in-Binary-clause-text
-returns-in-Binary-clause-text c = opens_binary c.args.content c.args.to.now c.in-Binary.is c.requires
+pub returns-in-Binary-clause-text : N.chunks.open.Goals.returns-in-Binary-clause-text
+returns-in-Binary-clause-text = grind (N.arith, N.SeveralChunks.opens_binary)
 
-pub returns : goal.returns
-returns c = record { most = search arith; text = opens_quoted c.args.content c.args.to.now c.in_default.not-Binary c.requires }
+pub returns : N.chunks.open.Goals.returns
+returns = grind (N.arith, N.SeveralChunks.opens_quoted)

@@ -1,8 +1,6 @@
 use Rattle.tds_cells.proofs as N
+use N.{length, ◌+◌, ◌-◌, ◌≡◌, ◌≤◌}
 use N.chunks.write_chunks.Given as goal
-use N.SeveralChunks.{WroteChunks}
-use N.{◌+◌, ◌-◌, ◌≡◌, ◌≤◌, length}
-use Rattle.tds_text.specs.Fields.{conversion_of}
 
 abbrev pub invariant-loop-n : goal.invariant-loop-n
 invariant-loop-n l = record {
@@ -10,7 +8,7 @@ invariant-loop-n l = record {
   few : l.sum ≤ l.at;
   room : l.made + 16 ≤ length l.to;
   size : length l.to ≡ length l.fn.to;
-  wrote : WroteChunks (conversion_of l.content) l.bytes l.to l.at l.made l.sum;
+  wrote : N.SeveralChunks.WroteChunks (N.conversion_of l.content) l.bytes l.to l.at l.made l.sum;
 }
 
 abbrev pub decreases-loop-n : goal.decreases-loop-n

@@ -1,11 +1,6 @@
 use Rattle.tds_cells.proofs as N
+use N.{◌<◌, ◌↔◌, ◌≡◌}
 use N.laws.read_as_spelt.Goals as goal
-use N.{◌≡◌, ◌<◌}
-use Rattle.std.specs.Prelude.{◌↔◌}
-
-pub returns-clause-cell : goal.returns-clause-cell
-returns-clause-cell c = λ charset kind column value bytes are.
-    (λ h. N.CellLaws.cell_is_read _ _ _ _ _ (N.RowLaws.shape-HasBytes _ _) h, λ k. N.CellMeaning.cell_is_spelt _ _ are k)
 
 row_as_spelt : (token : N.RowToken) (charset : N.Charset) (columns : N.List N.Column) (cells : N.List N.Cell) (bytes : N.List N.ℕ)
     → (token ≡ N.NbcRow → 0 < N.length columns) → N.AreBytes bytes
@@ -14,5 +9,9 @@ row_as_spelt N.PlainRow _ _ _ _ _ are = (λ h. N.RowLaws.row_is_read _ _ _ _ h, 
 row_as_spelt N.NbcRow _ _ _ _ some are =
     (λ h. N.RowLaws.nbc_row_is_read _ _ _ _ (N.RowLaws.some_bitmap _ (some N.refl)) h, λ k. N.RowMeaning.nbc_row_is_spelt _ _ are k)
 
-pub returns-clause-row : goal.returns-clause-row
-returns-clause-row c = row_as_spelt
+pub returns : goal.returns
+returns c = record {
+  cell = λ charset kind column value bytes are.
+      (λ h. N.CellLaws.cell_is_read _ _ _ _ _ (N.RowLaws.shape-HasBytes _ _) h, λ k. N.CellMeaning.cell_is_spelt _ _ are k);
+  row = row_as_spelt;
+}

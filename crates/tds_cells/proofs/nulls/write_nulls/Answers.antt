@@ -1,6 +1,6 @@
 use Rattle.tds_cells.proofs as N
-use N.nulls.write_nulls.Goals as goal
 use N.{arith}
+use N.nulls.write_nulls.Goals as goal
 
 pub returns-then-columns-lt2-clause-nulls : goal.returns-then-columns-lt2-clause-nulls
 returns-then-columns-lt2-clause-nulls c = rw c.write_null-made.ensures.text

@@ -1,9 +1,8 @@
 use Rattle.tds_cells.proofs as N
 use N.whole.write_short.Goals as goal
-use N.{arith}
 
 pub returns-then-n : goal.returns-then-n
-returns-then-n c = grind (arith, N.common_steps, N.ShortCells.short_null)
+returns-then-n = grind (N.arith, N.common_steps, N.ShortCells.short_null)
 
 pub returns : goal.returns
-returns c = grind (arith, N.common_steps, N.ShortCells.short_value)
+returns = grind (N.arith, N.common_steps, N.ShortCells.short_value)

@@ -1,12 +1,7 @@
 use Rattle.tds_cells.proofs as N
+use N.{arith, sym, ◌∙◌, ◌≡◌, ◌⊎◌}
 use N.row_format.RowFormat.learn.Goals as goal
-use N.{◌≡◌, ◌∙◌, ◌⊎◌, ap, sym, arith, is_counted, is_int4}
-use N.row_format.RowFormat.learn.Goals.{else-loop-known-test, then-loop-known-test+in_default}
-use N.LaidOut.{each_set, kind_set}
 use N.RowFormatSteps.{all_more, first_more, next_column}
-
-pub loop-known-init : goal.loop-known-init
-loop-known-init c = grind arith
 
 pub loop-known-preserved : goal.loop-known-preserved
 loop-known-preserved c =
@@ -19,14 +14,14 @@ loop-known-preserved c =
       few = omega arith;
       first = first_more _ columns _ c.of.result
           (omega arith) inv.first step c.of.ensures.kind;
-      laid = each_set (λ f. N.IsLaidOut c.args.charset f.kind f.layout) _ _ c.of.result inv.laid
+      laid = N.LaidOut.each_set (λ f. N.IsLaidOut c.args.charset f.kind f.layout) _ _ c.of.result inv.laid
           (omega arith) c.of.ensures.laid;
-      numbers = kind_set is_int4 _ _ c.of.result _ c.is_int4-only_numbers.result inv.numbers
+      numbers = N.LaidOut.kind_set N.is_int4 _ _ c.of.result _ c.is_int4-only_numbers.result inv.numbers
           (omega arith) (grind arith);
-      counted = kind_set is_counted _ _ c.of.result _ c.is_counted-only_counted.result inv.counted
+      counted = N.LaidOut.kind_set N.is_counted _ _ c.of.result _ c.is_counted-only_counted.result inv.counted
           (omega arith) (grind arith);
-      numbers_are = all_more is_int4 columns _ step inv.numbers_are c.is_int4-only_numbers.ensures;
-      counted_are = all_more is_counted columns _ step inv.counted_are c.is_counted-only_counted.ensures;
+      numbers_are = all_more N.is_int4 columns _ step inv.numbers_are c.is_int4-only_numbers.ensures;
+      counted_are = all_more N.is_counted columns _ step inv.counted_are c.is_counted-only_counted.ensures;
       rest = sym next.1.1;
     }
 
@@ -35,12 +30,12 @@ returns c =
     let inv = c.loop-known.invariant in
     let columns = N.columns_of c.args.columns.bytes.now in
     let all : (c.loop-known.known ≡ N.length c.loop-known.formats) ⊎ (c.loop-known.known ≡ N.length columns) = elim c.loop-known-test.branch [
-      | else-loop-known-test w ↦ N.inl (omega arith)
-      | then-loop-known-test+in_default w ↦ N.inr (omega (
+      | N.row_format.RowFormat.learn.Goals.else-loop-known-test w ↦ N.inl (omega arith)
+      | N.row_format.RowFormat.learn.Goals.then-loop-known-test+in_default w ↦ N.inr (omega (
         arith,
         inv.few,
         N.length-drop c.loop-known.known columns,
-        ap N.length (sym inv.rest ∙ w.in_default.ensures.steps.0),
+        N.ap N.length (sym inv.rest ∙ w.in_default.ensures.steps.0),
       ))
     ] in
     grind arith

@@ -1,6 +1,5 @@
 use Rattle.tds_cells.proofs as N
 use N.row_format.RowFormat.run_cells.Goals as goal
-use N.{arith}
 
 pub returns-in-Some-clause-ends : goal.returns-in-Some-clause-ends
 returns-in-Some-clause-ends g c = λ none some. c.run_along.ensures.ends none
@@ -10,4 +9,4 @@ returns-clause-ends g c = λ none some. c.run_unknown.ensures.ends none
 
 pub returns-in-Some-clause-left : goal.returns-in-Some-clause-left
 returns-in-Some-clause-left g c = λ columns column left knows is few step.
-    c.run_along.ensures.left columns column left knows is (omega (arith, few, c.in-Some.ensures.all)) step
+    c.run_along.ensures.left columns column left knows is (omega (N.arith, few, c.in-Some.ensures.all)) step

@@ -1,6 +1,6 @@
 use Rattle.tds_cells.proofs as N
-use N.row_format.RowFormat.run_known.Given as goal
 use N.{◌-◌}
+use N.row_format.RowFormat.run_known.Given as goal
 
 abbrev pub invariant-loop-formats : goal.invariant-loop-formats
 invariant-loop-formats g l = N.KnownRan l.fn.self l.fn.from l.fn.bytes l.to

@@ -1,8 +1,7 @@
 use Rattle.tds_cells.proofs as N
+use N.{arith, length, ◌-◌, ◌<◌, ◌≡◌, ◌≤◌}
 use N.row_format.RowFormat.run_marked.Goals as goal
-use N.{◌≡◌, ◌∙◌, ◌-◌, ◌<◌, ◌≤◌, [], length, arith}
 use N.RowFormatRuns.{ends_clear, runs_clear, runs_more}
-use N.RunSteps.{made_more}
 
 -- columns that are NULL by their bit
 pub loop-to-preserved-then-end-at : goal.loop-to-preserved-then-end-at
@@ -14,7 +13,7 @@ loop-to-preserved-then-end-at g c =
       most = search arith;
       clear = grind arith;
       writes = λ columns knows ahead.
-          rw (N.sym (N.add-zero l.used)) (grind (arith, runs_more, made_more));
+          rw (N.sym (N.add-zero l.used)) (grind (arith, runs_more, N.RunSteps.made_more));
     }
 
 -- a run over columns that aren't
@@ -33,15 +32,9 @@ loop-to-preserved g c =
       clear = grind arith;
       writes = λ columns knows ahead.
           let x = l.invariant.writes columns knows ahead in
-          let clear = runs_clear (λ k least most. end.ensures.ends.0 k least (omega (arith, within))) (ran.ensures.cells columns knows x.ahead) in
-          runs_more _ _ _ _ _ _ l.to _ _ (made_more l.made cells.made l.to ran.new.to _ l.invariant.made some) x clear;
+          let clear = runs_clear (λ k least most. end.ensures.ends.0 k least (omega arith)) (ran.ensures.cells columns knows x.ahead) in
+          runs_more _ _ _ _ _ _ l.to _ _ (N.RunSteps.made_more l.made cells.made l.to ran.new.to _ l.invariant.made some) x clear;
     }
-
-pub returns-after-loop-to-clause-ends : goal.returns-after-loop-to-clause-ends
-returns-after-loop-to-clause-ends g c = grind arith
-
-pub returns-else-at-count-clause-ends : goal.returns-else-at-count-clause-ends
-returns-else-at-count-clause-ends g c = grind (arith, N.RowFormatSteps.none_next)
 
 pub returns-then-cells-eq0-clause-ends : goal.returns-then-cells-eq0-clause-ends
 returns-then-cells-eq0-clause-ends g c =

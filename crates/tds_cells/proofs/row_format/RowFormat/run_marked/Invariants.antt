@@ -1,6 +1,6 @@
 use Rattle.tds_cells.proofs as N
-use N.row_format.RowFormat.run_marked.Given as goal
 use N.{◌-◌, ◌≤◌}
+use N.row_format.RowFormat.run_marked.Given as goal
 
 abbrev pub invariant-loop-to : goal.invariant-loop-to
 invariant-loop-to g l = record {
@@ -8,8 +8,7 @@ invariant-loop-to g l = record {
   made : l.made ≤ N.length l.to;
   most : l.end ≤ l.fn.self.count;
   clear : N.BitsAre N.false (N.bit l.fn.bitmap) l.at.column l.end;
-  writes : (columns : N.List N.Column) → N.Knows l.fn.self columns → N.IsCursor l.fn.self columns l.fn.at
-      → N.RunsMarked l.fn.self columns (N.bit l.fn.bitmap) l.fn.at l.at (N.take l.used l.fn.bytes) (N.take l.made l.to);
+  writes : N.CellsWritten l.fn.self (N.bit l.fn.bitmap) l.fn.at l.at (N.take l.used l.fn.bytes) (N.take l.made l.to);
 }
 
 abbrev pub decreases-loop-to : goal.decreases-loop-to

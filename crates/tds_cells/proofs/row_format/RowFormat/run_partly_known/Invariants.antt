@@ -1,6 +1,6 @@
 use Rattle.tds_cells.proofs as N
-use N.row_format.RowFormat.run_partly_known.Given as goal
 use N.{◌-◌}
+use N.row_format.RowFormat.run_partly_known.Given as goal
 
 abbrev pub invariant-loop-run : goal.invariant-loop-run
 invariant-loop-run l = N.Ran l.fn.self N.Unmarked l.fn.at l.at l.fn.bytes l.to l.run
