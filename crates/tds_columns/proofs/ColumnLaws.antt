@@ -3,9 +3,6 @@ use Rattle.tds_columns.proofs as N
 use N.{if◌then◌else◌, ◌≡◌, ℕ, ◌+◌, ◌-◌, ◌*◌, ◌/◌, ◌%◌, ◌<◌, ◌≤◌, List, [], ◌∷◌, ◌++◌, length, arith, length-append, Some, ◌==◌, Kind, Spelt, Column, InColumn}
 use N.{description}
 
-pub fits_in : (room so_far least : ℕ) → so_far + least ≤ room → N.too_long room so_far least ≡ N.None
-fits_in = grind arith
-
 -- the bytes of a TYPE_INFO: its type byte and the rest
 pub record ByteAndRest (kind : Kind) (info : List ℕ) : Type 0 where
   pub byte : ℕ

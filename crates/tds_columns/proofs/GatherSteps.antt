@@ -39,13 +39,14 @@ module _ {room : ℕ} {s : DescriptionPart} {a b : PayloadView} {before after : 
       }
 
   -- the next element is read whole, and refused
-  pub description_refused : {cut : Space} {place n start : ℕ} {fault : N.Fault} (t : N.TakesInto a b before after n) → 0 < n → N.described_size s ≡ n
+  pub description_refused : {cut : Space} {place n start : ℕ} {fault : N.Fault} {stop : Stop} (t : N.TakesInto a b before after n) → 0 < n → N.described_size s
+      ≡ n
       → N.described_fault room s t.element ≡ Some fault → before.bytes ≡ N.description_bytes s → start ≡ length before.bytes
-      → cut ≡ N.holding after (N.take start after.bytes)
-      → N.StopsDescribing room s a b place before.peak cut (record { fault = fault; place = N.Payload place })
-  description_refused {n} t some size first kept at is =
+      → cut ≡ N.holding after (N.take start after.bytes) → stop ≡ record { fault = fault; place = N.Payload place }
+      → N.StopsDescribing room s a b place before.peak cut stop
+  description_refused {n} t some size first kept at is stops =
       let cut = shrunk before t.element t.stands t.whole at is in
-      record { at = s; stops = refused_into t some size first; kept = cut.0 ∙ kept; bound = grind arith; further = N.le_refl (span s) }
+      record { at = s; stops = rw stops (refused_into t some size first); kept = cut.0 ∙ kept; bound = grind arith; further = N.le_refl (span s) }
 
 module _ {room : ℕ} {s t : DescriptionPart} {a b c : PayloadView} {p q k : ℕ} {middle after : Space} where
   pub describes_both : {u : DescriptionPart} {r room' : ℕ} → room' ≡ room → Describes room s a b p q k middle t
@@ -92,17 +93,12 @@ name_after (Ok _) c after place'' stopped {kind} first some going at u = (
 )
 name_after (N.Err stop) c after place'' stopped first some going at e = stops_describing_after refl first (description_cut (e going) refl refl)
 
--- the element is all that the area has
-count_is : {a b : PayloadView} {before after : Space} (t : N.TakesInto a b before after 2) → before.bytes ≡ [] → (after.bytes ≡ t.element)
-    × (N.little t.element ≡ N.little_number 2 after.bytes)
-count_is = grind arith
-
 module _ {room count : ℕ} {a b : PayloadView} {before after kept : Space} {place : ℕ} (t : N.TakesInto a b before after 2) (none : before.bytes ≡ [])
     (number : count ≡ N.little_number 2 after.bytes) where
   pub count_read : {place' : ℕ} {to : DescriptionPart} → N.count_fault room count ≡ None → N.with_count after.bytes count ≡ to → place' ≡ place + 2
       → kept.peak ≡ after.peak → kept.bytes ≡ N.description_bytes to → Describes room N.BeforeCount a b place place' before.peak kept to
   count_read free leads at peak bytes = description_read t (omega arith) refl (grind arith) (grind arith) at none peak bytes
 
-  pub count_refused : {fault : N.Fault} → N.count_fault room count ≡ Some fault → kept ≡ N.holding after []
-      → N.StopsDescribing room N.BeforeCount a b place before.peak kept (record { fault = fault; place = N.Payload place })
+  pub count_refused : {fault : N.Fault} {stop : Stop} → N.count_fault room count ≡ Some fault → kept ≡ N.holding after []
+      → stop ≡ record { fault = fault; place = N.Payload place } → N.StopsDescribing room N.BeforeCount a b place before.peak kept stop
   count_refused why = description_refused {start = 0} t (omega arith) refl (grind arith) none (rw none)

@@ -87,11 +87,6 @@ takes_again area count next h counts fits within same took at =
     keeps_whole area.room next count (length area.bytes) area.peak area (h.1, N.sym (counts h.0 h.1 d), rw same again, within) took (N.sym same)
     (omega arith) at
 
--- what is kept of a description after a further column
-with_column_span : (bytes : List ℕ) (count : ℕ) (columns : List N.Column) (c : N.Column) → let d = N.with_column bytes count columns c in
-    (N.description_bytes d ≡ bytes) × (length bytes ≤ N.span d)
-with_column_span = grind arith
-
 -- a column is taken
 pub takes_column : (room count : ℕ) (columns : List N.Column) (bytes : List ℕ) (size : ℕ) {a b : N.PayloadView} (before after : N.Space) {place place' : ℕ}
     → BeginsColumn bytes size → (length before.bytes + size) + 8 * (count - (length columns + 1)) ≤ room → N.Takes a b (take size bytes) 0
@@ -99,23 +94,19 @@ pub takes_column : (room count : ℕ) (columns : List N.Column) (bytes : List �
     → (c : N.Column) × N.Describes room (N.InColumn before.bytes count columns N.ColumnHead) a b place place' before.peak after
     (N.with_column after.bytes count columns c)
 takes_column room count columns bytes size {a} {b} before after h fits took stands at =
-    let whole : length (take size bytes) ≡ size = N.length-take-le size bytes h.2 in
-    let same : after.bytes ≡ before.bytes ++ take size bytes = rw stands refl in
-    let longer : length after.bytes ≡ length before.bytes + size = rw (same, N.length-append before.bytes (take size bytes), whole) refl in
-    let peak : after.peak ≡ N.max before.peak (length before.bytes + size) =
-    rw stands (N.ap (N.max before.peak) (N.length-append before.bytes (take size bytes) ∙ N.ap (λ n. length before.bytes + n) whole)) in
+    let whole = N.length-take-le size bytes h.2 in
     let least = N.ColumnLaws.length-SpellsColumn h.0 (take size bytes) h.1 in
-    let spans = with_column_span after.bytes count columns h.0 in (
+    let long = N.length-append before.bytes (take size bytes) in (
       h.0,
       record {
         reads = record {
           bytes = take size bytes;
-          spelt = rw same (N.ColumnLaws.column_is_read room before.bytes count columns h.0 (take size bytes) (rw whole fits) h.1);
+          spelt = rw stands (N.ColumnLaws.column_is_read room before.bytes count columns h.0 (take size bytes) (rw whole fits) h.1);
           takes = Takes-more a b (take size bytes) 0 _ (omega arith) took;
         };
         place_is = rw whole at;
-        kept = N.sym spans.0;
-        bound = omega (arith, peak, spans.1, longer);
-        further = omega (arith, spans.1, longer, least, whole);
+        kept = grind arith;
+        bound = grind arith;
+        further = grind arith;
       },
     )

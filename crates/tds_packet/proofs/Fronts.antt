@@ -4,7 +4,7 @@ use N.{◌≡◌, ◌∙◌, ◌⊎◌, inl, inr, ℕ, suc, ◌+◌, ◌<◌, �
 use N.{begun}
 use N.Words.{front_packet, message}
 use N.ElementLaws.{AreBytes-front}
-use N.PacketLaws.{good_header, header_of, front_message}
+use N.PacketLaws.{header_of, front_message}
 
 -- whole packets at the front of an input, with the rest of it after them; none but the last is marked as the last
 pub record BeginsMessage (size limit : ℕ) (input rest payload : List ℕ) : Type 0 where
@@ -13,11 +13,6 @@ pub record BeginsMessage (size limit : ℕ) (input rest payload : List ℕ) : Ty
   pub each : N.AreMessage size packets ⊎ AreBefore size packets
   pub within : length (wire_of packets) ≤ limit
   pub payload_is : payload_of packets ≡ payload
-
--- no fault of the wire is the message's end
-pub wire_goes_on : (size limit : ℕ) (input : List ℕ) (packets : List Packet) (fault : N.Fault) → N.WireFault size limit input packets fault
-    → fault ≡ N.MessageEnded → ⊥
-wire_goes_on = grind arith
 
 -- an input that begins with nothing but packets
 all_packets : {size limit : ℕ} {read rest payload : List ℕ} {place : ℕ} {c : N.Coming} → N.IsFrontMessage size limit read c → c.bytes ≡ payload → c.rest ≡ []
@@ -95,19 +90,18 @@ split_last {size} (p ∷ q ∷ ps) each some =
 -- what comes of a packet before the last, and of more after it
 front_whole : {size limit : ℕ} (from : ℕ) {p : Packet} {more : List ℕ} → N.IsPacket size p → N.is_last p ≡ N.false → from + N.packet_length p ≤ limit
     → front_packet size limit from (N.packet_bytes p ++ more) ≡ N.WholePacket p.body N.false (N.packet_length p) more
-front_whole {size} {limit} from {p} {more} each last within =
-    let size_is : N.header_length (header_of p) ≡ N.packet_length p = omega arith in
+front_whole {size} {limit} from {p} {more} each last within = let size_is : N.header_length (header_of p) ≡ N.packet_length p = omega arith in
     rw N.append_assoc (rw (size_is, last) at (N.Joins.whole_packet size limit from (header_of p) (record {
       length = N.header_length (header_of p);
       last = N.is_last p;
-    }) (omega arith) (rw good_header) p.body more (omega arith)))
+    }) (omega arith) (grind arith) p.body more (omega arith)))
 
 -- what comes of packets none of which is the last
 message_before : (size limit n from place : ℕ) (packets : List Packet) → AreBefore size packets → from + length (wire_of packets) ≤ limit
     → length (wire_of packets) < n → (message size limit n from place (wire_of packets)).bytes ≡ payload_of packets
 unfolding message front_packet
 message_before size limit N.zero from place packets each within less = grind arith
-message_before size limit (suc n) from place [] each within less = refl
+message_before size limit (suc n) from place [] each within less = cc
 message_before size limit (suc n) from place (p ∷ ps) each within less =
     let long : length (wire_of (p ∷ ps)) ≡ N.packet_length p + length (wire_of ps) = simp N.length-append (omega arith) in
     ap (λ f. (N.after_packet (message size limit n) from place f).bytes) (front_whole _ each.0 each.1 (omega arith))
@@ -118,7 +112,7 @@ pub in_last : (size limit f n : ℕ) (input rest : List ℕ) (q : N.PayloadView)
     → N.Takes (begun size limit (Some input) f) q bytes n → (p : BeginsMessage size limit input rest payload) → 0 < length payload → InLast size p.packets n
 in_last size limit f n input rest q bytes payload left t p some =
     let filled = λ (ps : List Packet). elim ps as (λ ps. payload_of ps ≡ payload → 0 < length ps) [ [] ↦ grind arith | ◌∷◌ x _ ↦ omega arith ] in
-    let l = split_last _ p.each (filled _ p.payload_is) in
+    let l = split_last _ p.each (grind arith) in
     let split = rw left at t.1.0 in
     let wires = ap wire_of (sym l.2) ∙ simp (N.flat_map-append, N.append-nil) in
     let read = N.append_cancel_right t.0 (wire_of l.0 ++ N.packet_bytes l.1) rest (sym split ∙ sym p.begin ∙ ap (λ w. w ++ rest) wires) in

@@ -2,12 +2,12 @@
 use Rattle.tds_packet.proofs as N
 use N.{◌≡◌, inl, inr, ℕ, suc, ◌+◌, ◌-◌, ◌<◌, ◌≤◌, List, [], ◌++◌, length, take, None, arith, Takes, Ends, buffered, seen, device}
 use N.Words.{front_packet, message, coming_of}
-use N.Joins.{Stays-none, Stays-trans}
+use N.Joins.{Stays-trans}
 
 rest_shorter : (room max wire : ℕ) (xs : List ℕ) {body rest : List ℕ} {last : N.Bool} {n : ℕ} → front_packet room max wire xs ≡ N.WholePacket body last n rest
     → length rest < length xs
 unfolding front_packet
-rest_shorter = grind (arith, N.nat_tests, N.length-drop)
+rest_shorter = grind (arith, N.length-drop)
 
 same_after : (F G : ℕ → ℕ → List ℕ → N.Coming) (wire place : ℕ) {p : N.FrontPacket} → ((body rest : List ℕ) (n : ℕ) → p ≡ N.WholePacket body N.false n rest
     → F (wire + n) (place + length body) rest ≡ G (wire + n) (place + length body) rest) → N.after_packet F wire place p ≡ N.after_packet G wire place p
@@ -73,12 +73,12 @@ Takes-trans a b c hs bs n m le p q =
 pub Ends-after : (a b c : N.PayloadView) (hs bs : List ℕ) (n : ℕ) (e : N.Stop) → Takes a b hs n → Ends b c bs e → Ends a c (hs ++ bs) e
 Ends-after a b c hs bs n e p (inl y) = inl (p.0 ++ y.0, grind (arith, N.Consumes-trans), grind (arith, N.append_assoc), Stays-trans _ _ _ _ _ p.4 y.3)
 Ends-after a b c hs bs n e p (inr (inl y)) = grind (arith, N.common_steps)
-Ends-after a b c hs bs n e p (inr (inr y)) = grind (arith, N.common_steps, N.Joins.Rises-after)
+Ends-after a b c hs bs n e p (inr (inr y)) = grind (arith, N.common_steps)
 
 module _ {R : Type 0} (remaining : R → N.Option (List ℕ)) (p : N.PayloadOf R) where
   pub stopped_ends : {s : N.Stop} → p.stopped ≡ N.Some s → Ends (seen remaining p) (seen remaining p) [] s
   unfolding coming_of
-  stopped_ends e = inl (grind arith)
+  stopped_ends = grind arith
 
   -- the last packet is used up
   pub over : p.last ≡ N.true → p.stopped ≡ None → buffered p ≡ [] → N.IsOver (seen remaining p)
@@ -88,7 +88,7 @@ module _ {R : Type 0} (remaining : R → N.Option (List ℕ)) (p : N.PayloadOf R
   pub ended_ends : p.last ≡ N.true → p.stopped ≡ None → buffered p ≡ []
       → Ends (seen remaining p) (seen remaining p) [] (record { fault = N.MessageEnded; place = N.Payload p.place })
   unfolding over
-  ended_ends el es eb = inl (grind arith)
+  ended_ends = grind arith
 
   pub not_over : p.stopped ≡ None → 0 < length (buffered p) → N.IsNotOver (seen remaining p)
   unfolding coming_of

@@ -36,15 +36,6 @@ module _ {S T : Type 0} (small : N.Grammar S N.Fault) (big : N.Grammar T N.Fault
     pub next : IsNext big (lift at) element
     pub to_is : big.add (lift at) element ≡ lift to
 
-  last_of : (from s : S) (front : List ℕ) (e : List ℕ) (es : List (List ℕ)) (to : S) → N.Spelt small from front s → N.Leads small s (e ∷ es) to
-      → LastInside from (front ++ N.concat (e ∷ es)) to
-  last_of from s front e [] to spelt leads = grind (arith, N.append-nil, Inside-Spelt)
-  last_of from s front e (f ∷ es) to spelt leads =
-      grind (arith, N.append_assoc, last_of from (small.add s e) (front ++ e) f es to (grind (arith, Spelt-append, Spelt-one)) leads.1)
-
   pub last_inside : (from : S) (bytes : List ℕ) (to : S) → N.Spelt small from bytes to → 0 < N.length bytes → LastInside from bytes to
-  last_inside from bytes to spelt some = rw spelt.joined at (elim spelt.elements as (λ es. N.concat es ≡ bytes → N.Leads small from es to
-      → LastInside from (N.concat es) to) [
-        | [] ↦ grind arith
-        | ◌∷◌ e (es → _) ↦ λ _. last_of _ _ _ e _ _ (Spelt-none _ _)
-      ] spelt.joined spelt.leads)
+  last_inside from bytes to spelt = (N.ElementLaws.Spelt-induct small (λ s b. N.Spelt small from b s × (0 < N.length b → LastInside from b s))
+      (grind (arith, Inside-Spelt, Spelt-append, Spelt-one)) from (grind arith) bytes to spelt).1

@@ -2,21 +2,16 @@
 use Rattle.tds_packet.proofs as N
 use N.{◌≡◌, ◌∙◌, ℕ, ◌+◌, ◌-◌, ◌^◌, ◌<◌, List, [], ◌++◌, length, Ok, Err, arith, if◌then◌else◌, Device, Stays, Fault, Header}
 use N.Words.{front_packet}
-use N.Choices.{test_lt}
 
 pub Stays-none : (f : ℕ) → Stays f f []
 Stays-none f = grind arith
 
 pub Stays-trans : (f g h : ℕ) (r s : List ℕ) → Stays f g r → Stays g h s → Stays f h (r ++ s)
-Stays-trans = grind (arith, N.common_steps, N.length-append)
-
--- bytes moved before a call that failed, and in it
-pub Rises-after : {f g : ℕ} (r s : List ℕ) → Stays f g r → (0 < length s → g < 2 ^ 64 - 1) → 0 < length (r ++ s) → f < 2 ^ 64 - 1
-Rises-after r s p q = grind (arith, N.length-append)
+Stays-trans = grind (arith, N.common_steps)
 
 -- bytes that a device took before a call that failed, and in it
 pub Stays-Rises : {f g h : ℕ} (r s : List ℕ) → Stays f g r → N.Rises g h s → N.Rises f h (r ++ s)
-Stays-Rises r s p q = (q.0 ∙ N.ap N.one_more p.0, Rises-after r s p q.1)
+Stays-Rises = grind (arith, N.common_steps, N.one_more)
 
 -- an input of fewer than eight bytes
 short_input : (size limit wire : ℕ) (xs : List ℕ) → length xs < 8 → front_packet size limit wire xs ≡ N.NoPacket N.InputEnded []
@@ -44,7 +39,7 @@ module _ (size limit wire : ℕ) (hdr : List ℕ) (h : Header) (eight : length h
 
   -- an input that ends in the body
   ended_body : (bs : List ℕ) → length bs + 8 < h.length → front_packet size limit wire (hdr ++ bs) ≡ N.NoPacket N.InputEnded []
-  ended_body = grind (arith, after_header, test_lt)
+  ended_body = grind (arith, after_header)
 
   -- no beginning of a packet is a packet
   cut : (body : List ℕ) (j : ℕ) → length body + 8 ≡ h.length → j < length (hdr ++ body)
@@ -54,32 +49,21 @@ module _ (size limit wire : ℕ) (hdr : List ℕ) (h : Header) (eight : length h
     | no few ↦ short_input _ _ _ _ (grind (arith, N.length-take))
   ]
 
--- A good header was read.
-pub record ReadsHeader (size limit wire : ℕ) (old mid : Device) (h : Header) : Type 0 where
-  pub bytes : List ℕ
-  pub eight : length bytes ≡ 8
-  pub read : N.Consumes old.bytes mid.bytes bytes
-  pub stays : Stays old.failures mid.failures bytes
-  pub good : N.header_of size limit wire bytes ≡ Ok h
+module _ (size limit wire : ℕ) (old new : Device) (body : List ℕ) where
+  module _ (e : Fault) (r : N.Result Header Fault) (is : N.IsErrAnd r (λ x. x ≡ e)) (hdr : List ℕ) (eight : length hdr ≡ 8) where
+    pub fill_err : N.Faulted old new (length hdr) e → N.ReadsPacket size limit wire old new body r
+    fill_err = grind (arith, short_input)
 
-module _ (size limit wire : ℕ) (old new : Device) where
-  pub fill_err : (hdr body : List ℕ) {e : Fault} → length hdr ≡ 8 → N.Faulted old new (length hdr) e → N.ReadsPacket size limit wire old new body (Err e)
-  fill_err = grind (arith, short_input)
+    pub header_err : N.Consumes old.bytes new.bytes hdr → Stays old.failures new.failures hdr → N.header_of size limit wire hdr ≡ Err e
+        → N.ReadsPacket size limit wire old new body r
+    header_err = grind (arith, after_header)
 
-  pub header_err : (hdr body : List ℕ) {e : Fault} → length hdr ≡ 8 → N.Consumes old.bytes new.bytes hdr → Stays old.failures new.failures hdr
-      → N.header_of size limit wire hdr ≡ Err e → N.ReadsPacket size limit wire old new body (Err e)
-  header_err = grind (arith, after_header)
+  -- a good header was read
+  module _ (mid : Device) (h : Header) (hdr : List ℕ) (eight : length hdr ≡ 8) (read : N.Consumes old.bytes mid.bytes hdr)
+      (stays : Stays old.failures mid.failures hdr) (good : N.header_of size limit wire hdr ≡ Ok h) (fits : length body + 8 ≡ h.length) where
+    pub body_err : (e : Fault) (r : N.Result Header Fault) → N.IsErrAnd r (λ x. x ≡ e) → N.Faulted mid new (length body) e
+        → N.ReadsPacket size limit wire old new body r
+    body_err = grind (arith, N.Consumes-trans, ended_body size limit wire hdr h eight good)
 
-  pub body_err : (mid : Device) (h : Header) (body : List ℕ) (e : Fault) → ReadsHeader size limit wire old mid h → length body + 8 ≡ h.length
-      → N.Faulted mid new (length body) e → N.ReadsPacket size limit wire old new body (Err e)
-  body_err mid h body N.InputEnded x fits r =
-      let cut_short = ended_body _ _ _ x.bytes h x.eight x.good r.0.0.0 (omega arith) in
-      grind (arith, N.Consumes-trans)
-  body_err mid h body N.ReadFailed x fits r =
-      let cut_short = ended_body size limit wire x.bytes h x.eight x.good r.0 (omega arith) in
-      grind (arith, N.Consumes-trans)
-  body_err mid h body e x fits r = absurd r
-
-  pub body_ok : {mid : Device} {h : Header} {body : List ℕ} → ReadsHeader size limit wire old mid h → length body + 8 ≡ h.length
-      → N.Consumes mid.bytes new.bytes body → Stays mid.failures new.failures body → N.ReadsPacket size limit wire old new body (Ok h)
-  body_ok = grind (arith, N.append_assoc, whole_packet, N.Consumes-trans, cut, N.length-append)
+    pub body_ok : N.Consumes mid.bytes new.bytes body → Stays mid.failures new.failures body → N.ReadsPacket size limit wire old new body (Ok h)
+    body_ok = grind (arith, N.append_assoc, whole_packet, N.Consumes-trans, cut, N.length-append)

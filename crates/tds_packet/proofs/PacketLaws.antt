@@ -13,21 +13,12 @@ one_more size (q ∷ ps) p h i l = (h.0, h.1, one_more size ps p h.2 i l)
 
 pub last_one : {size : ℕ} (ps : List Packet) {p : Packet} → AreBefore size ps → IsPacket size p → is_last p ≡ true → N.AreMessage size (ps ++ p ∷ [])
 last_one [] h i l = (i, l)
-last_one (q ∷ []) h i l = (h.0, h.1, (i, l))
+last_one (q ∷ []) h i l = grind arith
 last_one {size} (q ∷ r ∷ ps) {p} h i l = (h.0, h.1, last_one (r ∷ ps) h.2 i l)
 
 -- a header that has no fault
-pub record Good (size limit : ℕ) (packets : List Packet) (header : List ℕ) : Type 0 where
-  pub eight : length header ≡ 8
-  pub bytes : AreBytes header
-  pub type : N.slice_index header 0 ≡ 4
-  pub least : 8 ≤ header_length header
-  pub most : header_length header ≤ size
-  pub within : length (wire_of packets) + header_length header ≤ limit
-
-free_is_good : (size limit : ℕ) (packets : List Packet) (header : List ℕ) → length header ≡ 8 → AreBytes header
-    → N.header_fault size limit (length (wire_of packets)) header ≡ None → Good size limit packets header
-free_is_good = grind arith
+abbrev Good : ℕ → ℕ → List Packet → List ℕ → Type 0
+Good size limit packets header = (length header ≡ 8) × AreBytes header × (N.header_fault size limit (length (wire_of packets)) header ≡ None)
 
 -- what the bytes that lead to a place of the wire are
 abbrev pub WireMeans : ℕ → ℕ → List Packet → WirePlace → List ℕ → Type 0
@@ -36,7 +27,7 @@ WireMeans size limit packets (BeforeBody header) b = (b ≡ wire_of packets ++ h
 WireMeans size limit packets N.AfterLast b = (b ≡ wire_of packets) × N.AreMessage size packets × (length b ≤ limit)
 
 module _ (size limit : ℕ) where
-  with_means : {packets : List Packet} {header : List ℕ} (body : List ℕ) → AreBefore size packets → Good size limit packets header
+  with_means : (packets : List Packet) (header body : List ℕ) → AreBefore size packets → Good size limit packets header
       → length body ≡ header_length header - 8 → let w = N.with_packet packets (N.packet_of header body) in
       WireMeans size limit w.packets w.place (wire_of packets ++ (header ++ body))
   with_means = grind (arith, append-nil, N.flat_map-append, length-append, last_one, one_more)
@@ -46,10 +37,9 @@ module _ (size limit : ℕ) where
       WireMeans size limit w.packets w.place (b ++ e)
   wire_step N.AfterLast b bytes h n = grind arith
   wire_step {packets} N.BeforeHeader b {e} bytes h n =
-      let good = free_is_good _ _ packets e n.whole bytes n.free in
       choose (λ w. WireMeans size limit w.packets w.place (b ++ e)) (header_length e == 8) (N.with_packet packets _)
       (record { packets = packets; place = BeforeBody e }) (λ z. (let eight = eq_true (header_length e) 8 z in rw h.0
-      (rw append-nil at (with_means [] h.1 good (omega arith))))) (grind arith)
+      (rw append-nil at (with_means packets e [] h.1 (grind arith) (omega arith))))) (grind arith)
   wire_step (BeforeBody header) b bytes h n = grind (arith, append_assoc, with_means)
 
   -- what is read of a wire are the packets that it begins with
@@ -62,42 +52,32 @@ abbrev pub header_of : Packet → List ℕ
 header_of p = 4 ∷ p.status ∷ N.packet_length p / 256 ∷ N.packet_length p % 256 ∷ p.id
 
 module _ (size limit : ℕ) where
-  pub good_header : (before : ℕ) {p : Packet} → IsPacket size p → before + N.packet_length p ≤ limit → N.header_fault size limit before (header_of p) ≡ None
-  good_header = grind arith
-
   abbrev pub before_packet : List Packet → WirePart
   before_packet packets = record { packets = packets; place = N.BeforeHeader }
 
   -- a packet that may follow is read
   pub packet_is_read : (packets : List Packet) (p : Packet) → IsPacket size p → length (wire_of packets) + N.packet_length p ≤ limit
       → Spelt (wire size limit) (before_packet packets) (N.packet_bytes p) (N.with_packet packets p)
-  packet_is_read packets p i f =
-      let g = wire size limit in
-      let good = good_header _ i f in
+  packet_is_read packets p i f = let g = wire size limit in
       elim p.body as (λ b. p.body ≡ b → Spelt g (before_packet packets) (header_of p ++ b)
       (N.with_packet packets (record { status = p.status; id = p.id; body = b }))) [
-        | [] ↦ λ e. grind (arith, header_of, append-nil, Spelt-step)
+        | [] ↦ λ e. grind (arith, append-nil, Spelt-step)
         | ◌∷◌ x (xs → _) ↦ λ e. (let inside : WirePart = record { packets = packets; place = BeforeBody (header_of p) } in
-            let n : N.packet_length p ≡ 8 + length (x ∷ xs) = rw e in
-            let off : (header_length (header_of p) == 8) ≡ false = grind (arith, N.nat_tests) in
-            Spelt-append g _ (header_of p) inside (x ∷ xs) _ (grind (arith, Spelt-step, header_of)) (grind (arith, Spelt-step)))
+            Spelt-append g _ (header_of p) inside (x ∷ xs) _ (grind (arith, Spelt-step)) (grind (arith, Spelt-step)))
       ] refl
 
   -- a packet before the last is read, and what follows it
-  pub one_is_read : {done : List Packet} {p : Packet} (packets : List Packet) {place : WirePlace} → IsPacket size p × (is_last p ≡ false)
-      → length (wire_of (done ++ p ∷ packets)) ≤ limit → (length (wire_of ((done ++ p ∷ []) ++ packets)) ≤ limit
-      → Spelt (wire size limit) (before_packet (done ++ p ∷ [])) (wire_of packets) (record { packets = (done ++ p ∷ []) ++ packets; place = place }))
-      → Spelt (wire size limit) (before_packet done) (wire_of (p ∷ packets)) (record { packets = done ++ p ∷ packets; place = place })
-  one_is_read {done} {p} packets h f more =
-      let long : length (wire_of (done ++ p ∷ packets)) ≡ length (wire_of done) + (N.packet_length p + length (wire_of packets)) =
-      simp (N.flat_map-append, length-append) (omega arith) in
-      Spelt-append _ _ _ _ _ _ (rw h.1 at (packet_is_read done p h.0 (omega arith))) (rw append_assoc at (more (rw append_assoc f)))
+  pub one_is_read : {done : List Packet} {p : Packet} (packets : List Packet) {to : WirePart} → IsPacket size p → is_last p ≡ false
+      → length (wire_of (done ++ p ∷ packets)) ≤ limit → Spelt (wire size limit) (before_packet (done ++ p ∷ [])) (wire_of packets) to
+      → Spelt (wire size limit) (before_packet done) (wire_of (p ∷ packets)) to
+  one_is_read {done} {p} packets i last fits =
+      Spelt-append _ _ _ _ _ _ (rw last at (packet_is_read done p i (omega (arith, simp (N.flat_map-append, length-append) at fits))))
 
   -- packets before the last are read
   pub before_are_read : (done packets : List Packet) → AreBefore size packets → length (wire_of (done ++ packets)) ≤ limit
       → Spelt (wire size limit) (before_packet done) (wire_of packets) (before_packet (done ++ packets))
-  before_are_read done [] h f = rw append-nil (Spelt-none _ _)
-  before_are_read done (p ∷ packets) h f = one_is_read _ (h.0, h.1) f (before_are_read _ _ h.2)
+  before_are_read done [] h f = search N.rules
+  before_are_read done (p ∷ packets) h f = one_is_read packets h.0 h.1 f (rw append_assoc at (before_are_read (done ++ p ∷ []) packets h.2 (rw append_assoc f)))
 
   -- the packet that follows would be read too
   no_next : {input : List ℕ} {taken : ℕ} {packets : List Packet} {place : WirePlace} {header : List ℕ}
@@ -119,22 +99,13 @@ module _ (size limit : ℕ) where
   -- What is read at most of an input are the packets at its front.
   pub read_front : (input : List ℕ) (taken : ℕ) (w : WirePart) → AreBytes input → N.Longest (wire size limit) no_wire input taken w
       → N.Front size limit input w.packets
-  read_front input taken w are l = go w.place l (wire_is_spelt size limit _ w (AreBytes-front _ (drop taken input) (rw N.take-append-drop are)) l.spelt)
-    where
-      go : (place : WirePlace) → N.Longest (wire size limit) no_wire input taken (record { packets = w.packets; place = place })
-          → WireMeans size limit w.packets place (take taken input) → N.Front size limit input w.packets
-      go N.BeforeHeader l k = grind (
-        arith,
-        N.take-append-drop taken input,
-        no_next l k.1 (k.0 ∙ N.sym (append-nil _)) (inl refl),
-      )
-      go (BeforeBody header) l k = grind (
-        arith,
-        append_assoc,
-        N.take-append-drop taken input,
-        no_next l k.1 k.0 (grind arith),
-      )
-      go _ l k = grind (arith, N.take-append-drop taken input)
+  read_front input taken w are l =
+      elim w.place as (λ place. N.Longest (wire size limit) no_wire input taken (record { packets = w.packets; place = place })
+      → WireMeans size limit w.packets place (take taken input) → N.Front size limit input w.packets) [
+        | N.BeforeHeader ↦ λ l k. grind (arith, N.take-append-drop taken input, no_next l k.1 (k.0 ∙ N.sym (append-nil _)) (inl refl))
+        | BeforeBody header ↦ λ l k. grind (arith, append_assoc, N.take-append-drop taken input, no_next l k.1 k.0 (grind arith))
+        | N.AfterLast ↦ λ l k. grind (arith, N.take-append-drop taken input)
+      ] l (wire_is_spelt size limit _ w (AreBytes-front _ (drop taken input) (rw N.take-append-drop are)) l.spelt)
 
 -- ---- what comes of an input
 
@@ -144,17 +115,16 @@ module _ (size limit : ℕ) (packets : List Packet) where
   at place = record { packets = packets; place = place }
 
   -- the wire stops after these packets and the bytes before an element that is refused or cut
-  stops_at : (front rest : List ℕ) (place : WirePlace) (fault : N.Fault) (c : N.Coming) → AreBytes (front ++ rest) → AreBefore size packets
+  stops_at : (front rest : List ℕ) (place : WirePlace) (fault : N.Fault) (left : List ℕ) → AreBytes (front ++ rest) → AreBefore size packets
       → Spelt (wire size limit) no_wire front (at place)
       → N.IsRefused (wire size limit) (at place) rest fault ⊎ ((length rest < N.wire_size place) × (N.wire_end place ≡ N.Some fault))
-      → c.bytes ≡ payload_of packets → c.stop ≡ record { fault = fault; place = N.Wire (length (wire_of packets)) }
-      → N.IsFrontMessage size limit (front ++ rest) c
-  stops_at front rest place fault c are each spelt cause =
+      → N.IsFrontMessage size limit (front ++ rest) (before (payload_of packets) (N.stopped_at fault (N.Wire (length (wire_of packets))) left))
+  stops_at front rest place fault left are each spelt cause =
       let g = wire size limit in
       let longest : N.Longest g no_wire (front ++ rest) _ (at place) =
       elim cause [ inl x ↦ N.ElementLaws.longest_refused g _ _ _ _ _ spelt x | inr x ↦ longest_cut g _ _ _ _ spelt x.0 ] in
       let front_is = read_front _ _ _ _ _ are longest in
-      grind (arith, N.drop-append_seam)
+      grind (arith, append-nil, N.drop-append_seam)
 
   -- what comes after these packets is the message at the front, by the packet that follows them
   abbrev Gives : ℕ → List ℕ → N.FrontPacket → Type 0
@@ -174,7 +144,7 @@ module _ (size limit n : ℕ) (packets : List Packet) (each : AreBefore size pac
       → Gives size limit packets n (wire_of packets ++ (wired ++ more)) (N.WholePacket p.body last count more)
   whole_gives p wired more last count comes are fits long limited less is =
       let joined : wire_of (packets ++ p ∷ []) ≡ wire_of packets ++ wired = simp (N.flat_map-append, append-nil, fits.0) in
-      grind (arith, N.flat_map-append, append-nil, last_one, append_assoc, length-append, at, one_more)
+      grind (arith, N.flat_map-append, last_one, append_assoc, length-append, at, one_more)
 
   -- a header is whole
   header_gives : (header rest : List ℕ) (o : N.Option N.Fault) → Comes size limit n → AreBytes (wire_of packets ++ (header ++ rest)) → length header ≡ 8
@@ -183,10 +153,10 @@ module _ (size limit n : ℕ) (packets : List Packet) (each : AreBefore size pac
   header_gives header rest (N.Some fault) comes are eight less is =
       let first : take 8 (header ++ rest) ≡ header = rw (← eight) (N.take-append_seam header rest) in
       stops_at _ _ _ _ _ _ _ _ are each (before_are_read _ _ _ _ each within)
-      (inl (record { some = omega arith; whole = grind (arith, length-append); first = rw first is })) (append-nil _) refl
+      (grind arith)
   header_gives header rest None comes are eight less free =
       let m = header_length header - 8 in
-      let good = free_is_good _ _ _ _ eight (grind (arith, AreBytes-front, AreBytes-back)) free in
+      let bytes : AreBytes header = grind (arith, AreBytes-front, AreBytes-back) in
       elim (N.dec_le m (length rest)) [
         | yes enough ↦
             (let test : nat_lt (length rest) m ≡ false = grind arith in
@@ -195,13 +165,13 @@ module _ (size limit n : ℕ) (packets : List Packet) (each : AreBefore size pac
             grind arith in
             let all : (header ++ take m rest) ++ drop m rest ≡ header ++ rest = rw (append_assoc, N.take-append-drop) in
             rw (test, ← all) (whole_gives _ (header ++ take m rest) _ _ _ comes (rw all are) again
-            (grind (arith, length-append)) good.within (omega (arith, N.length-drop m rest)) refl))
+            (grind (arith, length-append)) (grind arith) (omega (arith, N.length-drop m rest)) refl))
         | no short ↦
             (let test : nat_lt (length rest) m ≡ true = grind arith in
             let off : (header_length header == 8) ≡ false = grind arith in
             let inside = Spelt-step _ _ header (at size limit packets (BeforeBody header)) (omega arith) eight free (rw off) in
             let read = Spelt-append _ _ _ _ _ _ (before_are_read size limit [] packets each within) inside in
-            rw (test, ← append_assoc) (stops_at size limit packets _ rest _ _ _ (rw append_assoc are) each read (inr (omega arith, refl)) (append-nil _) refl))
+            rw (test, ← append_assoc) (stops_at size limit packets _ rest _ _ _ (rw append_assoc are) each read (inr (omega arith, refl))))
       ]
 
 -- what comes after any packets before the last is the message at the front
@@ -216,7 +186,7 @@ comes_front {size} {limit} (N.suc n) packets rest are each within less = elim (N
       (N.length-take-le 8 rest long) (grind arith) refl)))
   | no short ↦
       (let test : nat_lt (length rest) 8 ≡ true = grind arith in
-      rw test (stops_at size limit _ _ _ _ _ _ are each (before_are_read _ _ _ _ each within) (grind arith) (append-nil _) refl))
+      rw test (stops_at size limit _ _ _ _ _ _ are each (before_are_read _ _ _ _ each within) (grind arith)))
 ]
 
 -- What comes of an input is the message at its front.

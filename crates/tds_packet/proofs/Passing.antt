@@ -8,4 +8,4 @@ passed r e P Q = grind N.arith
 
 -- so it is of whatever is said of the answer
 pub passed_on : {T E : Type 0} (r : N.Result T E) (e : E) (P : N.Result T E → Type 0) → N.IsErrAnd r (λ x. x ≡ e) → P (N.Err e) → P r
-passed_on r e P = grind (N.arith, N.common_steps, N.err_from_is_err_and)
+passed_on r e P = grind (N.arith, N.common_steps)

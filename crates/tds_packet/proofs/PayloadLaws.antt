@@ -19,10 +19,10 @@ not_again o a P Q = grind arith
 
 -- What a call says of its answer, where that is known.
 pub at_ok : {A : Type 0} (r : N.Result A Stop) (a : A) (P : A → Type 0) (Q : Stop → Type 0) → r ≡ Ok a → N.MatchResult r P Q → P a
-at_ok r a P Q e h = rw e at h
+at_ok = grind arith
 
 pub at_err : {A : Type 0} (r : N.Result A Stop) (stop : Stop) (P : A → Type 0) (Q : Stop → Type 0) → r ≡ N.Err stop → N.MatchResult r P Q → Q stop
-at_err r stop P Q e h = rw e at h
+at_err = grind arith
 
 -- A piece of at least a byte was taken after so many bytes.
 pub takes_piece : {R : Type 0} (remaining : R → Option (List ℕ)) (o s t : N.PayloadOf R) (front bytes : List ℕ) {i : ℕ} → length front ≡ i

@@ -41,32 +41,19 @@ module _ {S : Type 0} (g : N.Grammar S N.Fault) where
   pub stops_after : (s t : S) (a b c : PayloadView) (place : ℕ) (at : S) (stop : Stop) → (p : Reads g s a b t)
       → N.StopsReading g t b c (place + length p.bytes) at stop → N.StopsReading g s a c place at stop
   stops_after s t a b c place at stop p q =
-      let placed : (place + length p.bytes) + length q.bytes ≡ place + length _ = grind (arith, N.length-append) in
       record {
         bytes = p.bytes ++ q.bytes;
         spelt = grind (arith, Spelt-append);
         cause = elim q.cause [
           | N.inl x ↦
               (let r = x.0 in
-              N.inl (
-                record {
-                  element = r.element;
-                  ahead = r.ahead;
-                  some = r.some;
-                  whole = r.whole;
-                  first = r.first;
-                  takes = rw (N.append_assoc p.bytes q.bytes _) (takes_ahead a b c _ _ _ p.takes r.takes);
-                  between = r.between;
-                },
-                x.1 ∙ N.ap N.Payload placed,
-              ))
-          | N.inr x ↦ N.inr (record {
-            part = x.part;
-            cut = x.cut;
-            own = x.own;
-            ends = rw N.append_assoc (N.Futures.Ends-after a b c _ _ _ _ p.takes x.ends);
-            stop_is = grind arith;
-          })
+              let took = rw (← (N.append_assoc p.bytes q.bytes r.element)) at (takes_ahead a b c _ _ _ p.takes r.takes) in
+              let next : N.RefusesNext g a c (p.bytes ++ q.bytes) at stop.fault =
+              record { element = r.element; ahead = r.ahead; some = r.some; whole = r.whole; first = r.first; takes = took; between = r.between } in
+              N.inl (next, grind (arith, N.length-append)))
+          | N.inr x ↦
+              (let ends = rw (← (N.append_assoc p.bytes q.bytes x.part)) at (N.Futures.Ends-after a b c _ _ _ _ p.takes x.ends) in
+              N.inr (record { part = x.part; cut = x.cut; own = x.own; ends = ends; stop_is = grind (arith, N.length-append) }))
         ];
       }
 

@@ -4,15 +4,7 @@ use N.{◌∙◌, arith}
 use N.ElementSteps.{shrunk}
 
 pub returns-in-Ok-fill-clause-gives : goal.returns-in-Ok-fill-clause-gives
-returns-in-Ok-fill-clause-gives g c =
-    let n = c.fill.auto.to ∙ c.grow_within-lent.ensures.value in
-    record {
-      element = c.fill.new.to;
-      whole = n;
-      takes = grind N.arith;
-      between = grind N.arith;
-      stands = N.grown _ _ _ c.fill.auto.to;
-    }
+returns-in-Ok-fill-clause-gives = grind (arith, N.grown)
 
 pub returns-in-Err-clause-gives : goal.returns-in-Err-clause-gives
 returns-in-Err-clause-gives g c = λ going. let back = shrunk _ _ (N.grown _ _ c.fill.new.to c.fill.auto.to) (c.fill.auto.to

@@ -4,8 +4,7 @@ use N.{◌≡◌, ◌∙◌, ◌∷◌, refl}
 use N.ElementSteps.{element_at}
 
 pub returns-in_err-read_into-clause-gives : goal.returns-in_err-read_into-clause-gives
-returns-in_err-read_into-clause-gives g c = λ count columns number. N.passed _ _ _ _ c.from_residual.ensures.1
-    (grind (N.arith, N.GatherSteps.description_cut))
+returns-in_err-read_into-clause-gives = grind (N.arith, N.GatherSteps.description_cut)
 
 pub returns-in-Some-clause-gives : goal.returns-in-Some-clause-gives
 returns-in-Some-clause-gives g c = λ count columns number. let t = c.in_ok-read_into.ensures.gives in
@@ -17,9 +16,7 @@ returns-in-Some-clause-gives g c = λ count columns number. let t = c.in_ok-read
     )
 
 pub returns-in-None-clause-gives : goal.returns-in-None-clause-gives
-returns-in-None-clause-gives g c = λ count columns number. let t = c.in_ok-read_into.ensures.gives in
-    let none : N.kind_of (c.args.byte ∷ t.element) ≡ N.None = rw (element_at t c.bytes.ensures.value c.len-start.ensures.value) at (N.sym c.kind_of.ensures
-    ∙ c.in-None.is) in
-    rw (c.in_payload.ensures, c.place-info_place.ensures)
-    (N.GatherSteps.description_refused t c.requires.follows.some (rw c.requires.follows.known) (rw (none, number)) refl c.len-start.ensures.value
-    c.truncate.ensures)
+returns-in-None-clause-gives g c =
+    λ count columns number. let t = c.in_ok-read_into.ensures.gives in let none : N.kind_of (c.args.byte ∷ t.element) ≡ N.None = rw (element_at t
+    c.bytes.ensures.value c.len-start.ensures.value) at (N.sym c.kind_of.ensures ∙ c.in-None.is) in N.GatherSteps.description_refused {fault = N.BadTypeInfo
+    c.args.index} t c.requires.follows.some (rw c.requires.follows.known) (rw (none, number)) refl c.len-start.ensures.value c.truncate.ensures (cc)

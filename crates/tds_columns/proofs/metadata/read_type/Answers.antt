@@ -15,18 +15,15 @@ no_fault : (room so_far byte rest index left : ℕ) → N.rest_length byte ≡ N
 no_fault = grind arith
 
 pub returns-in_err-read_into-clause-gives : goal.returns-in_err-read_into-clause-gives
-returns-in_err-read_into-clause-gives g c = λ columns number. N.passed _ _ _ _ c.from_residual.ensures.1
-    (grind (N.arith, N.GatherSteps.description_cut))
+returns-in_err-read_into-clause-gives = grind (N.arith, N.GatherSteps.description_cut)
 
 pub returns-in-Err-clause-gives : goal.returns-in-Err-clause-gives
-returns-in-Err-clause-gives g c = λ columns number. let t = c.in_ok-read_into.ensures.gives in
-    let first = rw (
-      byte_at t 6 c.bytes.ensures.value c.len-start.ensures.value,
-      c.len-start.ensures.value,
-      c.room.ensures ∙ c.in_ok-read_into.ensures.area.room,
-    ) at c.in-Err.ensures in
-    rw (c.in_payload.ensures, c.place-place.ensures) (N.GatherSteps.description_refused t (omega arith) refl (rw number first) refl c.len-start.ensures.value
-    c.truncate.ensures)
+returns-in-Err-clause-gives g c = λ columns number. let t = c.in_ok-read_into.ensures.gives in let first = rw (
+  byte_at t 6 c.bytes.ensures.value c.len-start.ensures.value,
+  c.len-start.ensures.value,
+  c.room.ensures ∙ c.in_ok-read_into.ensures.area.room,
+) at c.in-Err.ensures in N.GatherSteps.description_refused {fault =
+    c.in-Err.fault} t (omega arith) refl (grind arith) refl c.len-start.ensures.value c.truncate.ensures (cc)
 
 pub returns-then-rest-eq0-clause-gives : goal.returns-then-rest-eq0-clause-gives
 returns-then-rest-eq0-clause-gives g c = λ columns number. let t = c.in_ok-read_into.ensures.gives in
@@ -34,15 +31,12 @@ returns-then-rest-eq0-clause-gives g c = λ columns number. let t = c.in_ok-read
     let kind = bare (c.args.area.now.bytes ++ t.element) c.read_into.new.area.bytes c.args.at.count columns (N.slice_index t.element 6) c.in-Ok.rest known
     c.if-rest-eq0.true (rw t.stands) in (
       kind.0,
-      description_read t (omega arith) refl (no_fault _ _ _ c.in-Ok.rest _ _ known (rw number (omega arith))) kind.1
-          c.in_ok-read_into.ensures.place refl refl refl,
+      description_read t (omega arith) refl (grind (arith, no_fault)) kind.1 c.in_ok-read_into.ensures.place refl refl refl,
     )
 
 pub returns-clause-gives : goal.returns-clause-gives
 returns-clause-gives g c = λ columns number. let t = c.in_ok-read_into.ensures.gives in
     let byte = byte_at t 6 c.bytes.ensures.value c.len-start.ensures.value in
-    let known = rw byte at c.in-Ok.ensures.0 in
     part_after _ _ _ _ _ c.in_ok-read_into.ensures.area.room
-    (description_read t (omega arith) refl (no_fault _ _ _ c.in-Ok.rest _ _ known (rw number (omega (arith, c.in-Ok.ensures.1))))
-    (rw (known, t.stands, byte) (N.choose_false _ _ _ (N.ne_eqb c.in-Ok.rest 0 c.if-rest-eq0.false))) c.in_ok-read_into.ensures.place refl refl refl)
+    (description_read t (omega arith) refl (grind (arith, no_fault)) (grind (arith, N.choose_false, N.ne_eqb)) c.in_ok-read_into.ensures.place refl refl refl)
     (c.read_info.ensures.gives c.args.at.count columns number)

@@ -6,5 +6,5 @@ pub returns-clause-gives : goal.returns-clause-gives
 returns-clause-gives g c = λ _ columns number.
     N.WholeLaws.takes_column c.args.area.now.room c.args.at.count columns c.buffered-held.result.now c.in-Some.size c.args.area.now c.append.new.self
     c.in-Some.ensures (grind arith)
-    (rw c.buffered-held.ensures c.consume.ensures.gives) c.in-Ok.ensures.ok
+    (grind arith) c.in-Ok.ensures.ok
     (N.ap (λ p. p.place) c.consume.ensures.rest)

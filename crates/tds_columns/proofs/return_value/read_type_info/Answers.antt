@@ -35,8 +35,7 @@ returns-in-Some-clause-gives g c = λ before taken. let t = c.in_ok-read_into.en
 pub returns-in-None-clause-area : goal.returns-in-None-clause-area
 returns-in-None-clause-area g c =
     let t = c.in_ok-read_into.ensures.gives in
-    let kept = shrunk _ t.element t.stands t.whole (sym c.requires.head.eight) c.truncate.ensures in
-    record { room = search N.rules; bound = omega (arith, c.in-Ok.ensures.bound); kept = kept.0; grown = tt }
+    let kept = shrunk _ t.element t.stands t.whole (sym c.requires.head.eight) c.truncate.ensures in grind arith
 
 pub returns-in-None-clause-gives : goal.returns-in-None-clause-gives
 returns-in-None-clause-gives g c = λ before taken. let t = c.in_ok-read_into.ensures.gives in

@@ -5,9 +5,8 @@ use Rattle.std.proofs.Common.{Fits, length-take, w8}
 use N.ViewLaws.{all_after, Lies, lies}
 
 pub kind_at-kind-requires : goal.kind_at-kind-requires
-kind_at-kind-requires c =
-    let l = lies c.args.bytes.now c.requires in
-    (N.rest_size c.args.bytes.now, l.known, omega arith)
+kind_at-kind-requires c = let l = lies c.args.bytes.now c.requires in
+    (grind arith)
 
 -- the kind and the name at the front, by the number of bytes after the type byte and that of the name's units
 at_front : {bytes : N.List ℕ} {kind : N.Kind} {rest units : ℕ} → Lies bytes → N.rest_length (N.slice_index bytes 6) ≡ N.Some rest
@@ -36,4 +35,4 @@ invariant_of-column c =
     record { valid = f.0; even = f.1; few = grind arith }
 
 pub returns-clause-column : goal.returns-clause-column
-returns-clause-column c = (at_front (lies c.args.bytes.now c.requires) c.kind_at-kind.ensures.rest c.kind_at-kind.ensures.kind c.from.ensures).2
+returns-clause-column = grind (arith, at_front, lies)

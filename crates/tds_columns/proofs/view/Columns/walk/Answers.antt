@@ -16,4 +16,4 @@ pub returns-clause-columns : goal.returns-clause-columns
 returns-clause-columns c = λ room columns h. rw (all_after _ 2, c.count.ensures.value, length_columns) (N.ViewLaws.description_shows _ _ _ h).0
 
 pub returns-clause-bound : goal.returns-clause-bound
-returns-clause-bound c = rw length_columns (omega N.arith)
+returns-clause-bound = grind (N.arith, length_columns)

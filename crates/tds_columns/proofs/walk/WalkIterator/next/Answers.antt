@@ -11,12 +11,10 @@ pub column_at-size-requires : goal.column_at-size-requires
 column_at-size-requires = grind arith
 
 pub invariant_of-self : goal.invariant_of-self
-invariant_of-self c = record {
-  whole = grind (arith, all_after);
-}
+invariant_of-self = grind (arith, all_after)
 
 pub returns-clause-steps : goal.returns-clause-steps
 returns-clause-steps c = rw (all_after _ c.column_at-size.result.1) (grind arith)
 
 pub returns-clause-goes : goal.returns-clause-goes
-returns-clause-goes c = record { on = λ _. (tt, tt, grind (arith, length_columns)); keeps = tt; rests = λ _. tt }
+returns-clause-goes = grind (arith, length_columns)

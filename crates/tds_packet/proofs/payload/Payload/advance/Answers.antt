@@ -3,8 +3,7 @@ use N.payload.Payload.advance.Goals as goal
 use N.{◌+◌, refl}
 
 pub returns-in-Ok-clause-gives : goal.returns-in-Ok-clause-gives
-returns-in-Ok-clause-gives g c =
-    let s = c.args.self.now in
+returns-in-Ok-clause-gives g c = let s = c.args.self.now in
     let read = c.read_packet.new in
     let t = record s {
       from = record s.from { now = read.from };
@@ -13,7 +12,7 @@ returns-in-Ok-clause-gives g c =
       last = c.in-Ok.head.last;
       wire = s.wire + c.from.result;
     } in
-    N.Futures.advance_ok g.R.Read.remaining s t _ c.requires (search N.rules) refl (search N.rules) refl refl refl refl c.in-Ok.ensures.read
+    N.Futures.advance_ok g.R.Read.remaining s t _ c.requires (grind N.arith) refl (search N.rules) refl refl refl refl c.in-Ok.ensures.read
 
 pub returns-in-Err-clause-gives : goal.returns-in-Err-clause-gives
 returns-in-Err-clause-gives g c =

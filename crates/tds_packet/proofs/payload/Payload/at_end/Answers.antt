@@ -17,10 +17,10 @@ returns-in-MessageEnded-clause-tells g c =
     record { over = λ _. over g.R.Read.remaining s ends.last N.refl (N.drop_of_length-le s.packet.now.bytes (omega N.arith)); more = λ e. cc; ready = λ e. cc }
 
 pub returns-in-Some-clause-gives : goal.returns-in-Some-clause-gives
-returns-in-Some-clause-gives g c = N.Futures.stopped_ends g.R.Read.remaining c.args.self.now c.in-Some.is
+returns-in-Some-clause-gives g c = search (N.rules, N.Futures.stopped_ends)
 
 pub returns-in-Ok-clause-between : goal.returns-in-Ok-clause-between
 returns-in-Ok-clause-between g c = between_of g.R.Read.remaining c.ready.new.self c.in-Ok.ensures.payload.answers.going
 
 pub returns-in-MessageEnded-clause-between : goal.returns-in-MessageEnded-clause-between
-returns-in-MessageEnded-clause-between g c = between_of g.R.Read.remaining (record c.ready.new.self { stopped = N.None }) N.refl
+returns-in-MessageEnded-clause-between g c = search (N.rules, between_of)

@@ -6,4 +6,4 @@ pub returns-clause-gives : goal.returns-clause-gives
 returns-clause-gives g c = pass_takes g.R.Read.remaining c.args.self.now N.refl c.requires.sound.used_up c.requires.within
 
 pub returns-clause-between : goal.returns-clause-between
-returns-clause-between g c = between_of g.R.Read.remaining (N.further c.args.self.now _)
+returns-clause-between g c = search (N.rules, between_of)

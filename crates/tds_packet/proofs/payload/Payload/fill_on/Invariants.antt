@@ -6,7 +6,6 @@ abbrev pub invariant-loop-at : goal.invariant-loop-at
 invariant-loop-at g l = record {
   sound : N.IsSound l.self;
   same : N.IsOnSame l.initial.self l.self;
-  start : l.start ≡ l.initial.self.place;
   within : l.at ≤ N.length l.to;
   place : l.self.place ≡ l.initial.self.place + l.at;
   going : l.self.stopped ≡ N.None;

@@ -11,7 +11,7 @@ returns-clause-begun g c = record {
   limit = refl;
   place = refl;
   going = refl;
-  begins = rw c.clear.ensures.value;
+  begins = grind N.arith;
   between = N.PayloadLaws.between_of g.R.Read.remaining (record {
     from = c.args.from;
     packet = record c.args.packet { now = c.clear.new.self };

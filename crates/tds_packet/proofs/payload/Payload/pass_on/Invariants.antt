@@ -6,7 +6,6 @@ abbrev pub invariant-loop-passed : goal.invariant-loop-passed
 invariant-loop-passed g l = record {
   sound : N.IsSound l.self;
   same : N.IsOnSame l.initial.self l.self;
-  began : l.began ≡ l.initial.self.place;
   within : l.passed ≤ l.n;
   place : l.self.place ≡ l.initial.self.place + l.passed;
   going : l.self.stopped ≡ N.None;

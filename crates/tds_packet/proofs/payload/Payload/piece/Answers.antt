@@ -1,10 +1,9 @@
 use Rattle.tds_packet.proofs as N
 use N.{◌≡◌, [], ◌+◌, ◌-◌, ◌≤◌, arith, seen}
-use N.PayloadLaws.{between_of, not_again}
+use N.PayloadLaws.{between_of}
 
 pub returns : N.payload.Payload.piece.Goals.returns
-returns g c =
-    let s = c.ready.new.self in
+returns g c = let s = c.ready.new.self in
     let n = c.min-n.result in
     let ready = c.in_ok-ready.ensures in
     let sound = ready.payload.answers.sound in
@@ -19,7 +18,7 @@ returns g c =
         λ _. tt,
         (
           record {
-            at = omega (arith, up, ready.stands);
+            at = grind arith;
             place = omega arith;
             wire = sound.wire;
             limit = sound.limit;
@@ -32,11 +31,11 @@ returns g c =
                 (seen g.R.Read.remaining (N.further s n)) []
                 (N.take n (N.buffered s)) 1 1 (N.le_refl 1) ready.gives (N.Futures.further_takes g.R.Read.remaining s n 1 fits going)),
             between_of g.R.Read.remaining (N.further s n) going,
-            rw (value, m) (omega arith),
+            grind arith,
             going,
           ),
-          not_again _ _ _ _ ready.payload.answers.again,
+          grind arith,
         ),
       ),
-      record { len = rw (value, m) (omega (arith, len, up, ready.stands, c.requires.some), omega (arith, len, up)); after = tt },
+      record { len = grind arith; after = tt },
     )

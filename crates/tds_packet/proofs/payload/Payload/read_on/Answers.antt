@@ -4,7 +4,7 @@ use N.{◌≡◌, ◌∙◌, [], ap, seen}
 use N.PayloadLaws.{ends_there}
 
 pub returns-in-Some-clause-gives : goal.returns-in-Some-clause-gives
-returns-in-Some-clause-gives g c = N.Futures.stopped_ends g.R.Read.remaining c.args.self.now c.in-Some.is
+returns-in-Some-clause-gives g c = search (N.rules, N.Futures.stopped_ends)
 
 pub returns-then-self-clause-gives : goal.returns-then-self-clause-gives
 returns-then-self-clause-gives g c =
@@ -19,13 +19,12 @@ returns-in_err-advance-clause-gives g c =
     c.loop-self.invariant.gives c.in_err-advance.ensures.gives)
 
 pub loop-self-preserved : goal.loop-self-preserved
-loop-self-preserved g c =
-    let inv = c.loop-self.invariant in
+loop-self-preserved g c = let inv = c.loop-self.invariant in
     let answers = c.in_ok-advance.ensures.payload in
     record {
       sound = answers.answers.sound;
       same = search N.rules;
-      lazy = λ h. grind (N.arith, ap (λ p. p.at) (inv.lazy h), ap (λ p. N.length p.packet.now.bytes) (inv.lazy h), c.loop-self-test.true, c.len.ensures);
+      lazy = grind N.arith;
       place = cc;
       going = answers.answers.going;
       gives = N.Futures.Takes-trans (seen g.R.Read.remaining c.args.self.now) (seen g.R.Read.remaining c.loop-self.self)
