@@ -25,31 +25,7 @@ module _ (c : N.Conversion) (column : ℕ) (last : Bool) (total : Option ℕ) wh
   module _ {content kept : List ℕ} where
     -- no chunk
     pub chunks_none : kept ≡ N.conversion_rest c content → N.BeginsData c content → ChunksWritten c column last total content kept 0 [] []
-    chunks_none is begun = record {
-      more = [];
-      counted = N.refl;
-      begun = rw N.append-nil begun;
-      kept_is = rw N.append-nil is;
-      writes = rw N.append-nil writes_none;
-    }
-
-    -- one more
-    pub chunks_more : {kept' bytes text added : List ℕ} {k n : ℕ} (element piece : List ℕ) → (x : ChunksWritten c column last total content kept k bytes text)
-        → length element ≡ 4 → N.little element ≡ n → length piece ≡ n → 0 < n → N.within_total total ((length content + k) + n) ≡ true
-        → N.BeginsData c ((content ++ x.more) ++ piece) → kept' ≡ N.conversion_rest c ((content ++ x.more) ++ piece)
-        → added ≡ N.added_text c (content ++ x.more) piece
-        → ChunksWritten c column last total content kept' (k + n) (bytes ++ (element ++ piece)) (text ++ added)
-    chunks_more {k = k} {n = n} element piece x whole is counted some fits begun kept_is added_is =
-        let regroup = N.append_assoc content x.more piece in
-        let sum : length content + k ≡ length (content ++ x.more) = grind (arith, N.length-append) in
-        let one = chunk_writes (content ++ x.more) element piece n whole is counted some (rw sum at fits) begun in
-        record {
-          more = x.more ++ piece;
-          counted = grind (arith, N.length-append);
-          begun = rw regroup at begun;
-          kept_is = rw regroup at kept_is;
-          writes = rw (added_is, ← regroup) (writes_both x.writes one);
-        }
+    chunks_none is begun = grind (arith, N.append-nil, writes_none)
 
 -- At a place of the bytes a chunk of this many bytes lies whole, which is neither the terminator nor passes the total after so many bytes of data.
 pub record HasChunk (bytes : List ℕ) (at : ℕ) (total : Option ℕ) (sum n : ℕ) : Type 0 where
@@ -97,7 +73,7 @@ streamed_run {p = p} {q} {r} is x run =
 -- the text that a chunk adds has at most three bytes for each of its own
 pub added_most : {begins : List ℕ → Type 0} {rest text : List ℕ → List ℕ} {kept kept' new : List ℕ} {added : ℕ} (n : ℕ) (xs : List ℕ)
     → N.WritesAdded begins rest text kept kept' (take n xs) new added → added ≤ 3 * n
-added_most n xs y = omega (arith, N.length-take n xs)
+added_most n xs y = grind (arith, N.length-take)
 
 -- one more chunk was written, after those so far
 pub chunk_step : {fit begins : List ℕ → Type 0} {rest text : List ℕ → List ℕ} {size : ℕ} {quoted : Bool} {c : N.Conversion}
@@ -108,8 +84,18 @@ pub chunk_step : {fit begins : List ℕ → Type 0} {rest text : List ℕ → Li
     → N.WritesAdded begins rest text kept kept' (take n (take (length bytes - (at + 4)) (drop (at + 4) bytes))) new added
     → made ≤ length to → 3 * n ≤ length new
     → ChunksWritten c column last total content kept' (so_far + n) (take (at + (4 + n)) bytes) (take (made + added) (take made to ++ (new ++ after)))
-chunk_step suits column last {content = content} {bytes = bytes} {new} {at} {made} {n = n} {added} to after counted x chunk y room fits =
+chunk_step suits column last {content = content} {bytes = bytes} {new} {at} {made} {so_far = so_far} {n = n} {added} to after counted x chunk y room fits =
     let sizes = chunk_lengths chunk in
+    let piece = take n (drop (at + 4) bytes) in
     let z = N.JoinedPieces.piece_added suits (content ++ x.more) x.kept_is x.begun (rw (all_after bytes (at + 4)) at y) in
     let tail = made_more made added to new after room (omega (arith, added_most n _ y)) in
-    rw (next_bytes bytes at n, tail) (chunks_more _ column last _ _ _ x sizes.0 chunk.number sizes.1 chunk.some (rw (← counted) at chunk.fits) z.0 z.2 z.1)
+    let regroup = N.append_assoc content x.more piece in
+    let sum : length content + so_far ≡ length (content ++ x.more) = grind (arith, N.length-append) in
+    let one = chunk_writes _ column last _ (content ++ x.more) _ piece n sizes.0 chunk.number sizes.1 chunk.some (rw (← counted, sum) at chunk.fits) z.0 in
+    rw (next_bytes bytes at n, tail) (record {
+      more = x.more ++ piece;
+      counted = grind (arith, N.length-append);
+      begun = rw regroup at z.0;
+      kept_is = rw regroup at z.2;
+      writes = rw (z.1, ← regroup) (writes_both x.writes one);
+    })

@@ -1,11 +1,10 @@
 -- Rows with NULLs by their bit, column after column, as they are read and their text is put.
 use Rattle.tds_rows.proofs as N
-use N.{◌≡◌, ◌∙◌, inl, inr, ℕ, ◌+◌, ◌-◌, ◌^◌, ◌<◌, ◌≤◌, Bool, true, false, List, [], ◌∷◌, ◌++◌, length, refl, sym, arith, Stop, PayloadView, Column, SinkView}
-use N.{Charset, Cell, CellPart, RowPart, row_so_far}
+use N.{◌≡◌, ◌∙◌, inr, ℕ, ◌+◌, ◌-◌, ◌<◌, Bool, false, List, [], ◌∷◌, ◌++◌, length, sym, arith, Column, Charset, Cell, CellPart, RowPart, row_so_far}
 use N.Words.{row}
 use N.RowSteps.{PutsAt, cell_some, StopsCell}
-use N.Paths.{At, Halt, Path, RowStops, path_none, path_of, streams_of, over, until}
-use Rattle.tds_cells.proofs.RowTexts.{begun_text, coming, ends, line_grows, nulls_ahead, nulls_text, part_text, rest_of, row_cell}
+use N.Paths.{At, Breaks, Halt, Path, RowStops, path_none, path_of, streams_of, over, until}
+use Rattle.tds_cells.proofs.RowTexts.{begun_text, ends, line_grows, nulls_ahead, nulls_text, part_text, rest_of, row_cell}
 use Rattle.tds_cells.proofs.RowLaws.{begins_open, cell_in_row}
 
 -- ---- a cell in its row, with the NULLs after it
@@ -26,34 +25,6 @@ module _ (charset : Charset) (cells : List Cell) (ks : List (Column × Bool)) wh
   abbrev front : List ℕ
   front = N.joined (N.map N.field cells)
 
-  -- a write of the cell's text failed, and so one of the row's
-  breaks_there : {from at : CellPart} {b d : PayloadView} {i j : SinkView} {stop : Stop} → 0 < N.cell_size from
-      → N.WritesPrefixStreaming small text from b d i j at stop
-      → N.WritesPrefixStreaming big row_so_far (up from) b d i j (up at) stop
-  breaks_there {at = at} {j = j} {stop = stop} some x =
-      let is = cell_in_row charset cells ks in
-      let begun = begun_text charset cells ks in
-      let grows = line_grows _ _ in
-      let size = N.next_some small at x.element x.next in
-      let to = N.cell_add at x.element in
-      let rest = rest_of charset cells ks to in
-      record {
-        bytes = x.bytes;
-        element = x.element;
-        ahead = x.ahead;
-        spelt = N.Inside-Spelt _ _ up is _ _ _ x.spelt;
-        next = grind arith;
-        takes = x.takes;
-        between = x.between;
-        middle = x.middle;
-        few = x.few;
-        puts = (x.puts.0, N.added_between _ _ up is text row_so_far front begun grows _ _ _ some size x.puts.1, x.puts.2);
-        more = x.more ++ rest;
-        text_is = N.tail_after _ _ up is text row_so_far front begun grows at to _ rest size x.text_is (part_text charset cells ks to)
-            ∙ N.ap row_so_far (sym (is.add at x.element size));
-        breaks = grind (arith, N.WritesPrefix-longer);
-      }
-
   -- the cell stopped, and so the row
   stops_there : {from : CellPart} {p : At} {e : Halt} → 0 < N.cell_size from → until (N.StopsStreaming small text from) p e
       → until (N.StopsStreaming big row_so_far (up from)) p e
@@ -62,23 +33,41 @@ module _ (charset : Charset) (cells : List Cell) (ks : List (Column × Bool)) wh
       record {
         at = up x.at;
         cause = elim x.cause [
-          | inl y ↦ inl (
+          | N.inl y ↦ N.inl (
             N.stops_inside _ _ up is _ _ _ _ _ _ (grind arith) y.0,
-            (
-              y.1.0,
-              N.added_between _ _ up is text row_so_far front (begun_text charset cells ks) (line_grows _ _) _ _ _ some
-                  (N.stops_size _ _ _ _ _ _ _ y.0) y.1.1,
-              y.1.2,
-            ),
+            (y.1.0, (let size = N.stops_size _ _ _ _ _ _ _ y.0 in grind (arith, begun_text, N.append_assoc)), y.1.2),
             y.2,
           )
-          | inr y ↦ inr (breaks_there some y.0, y.1)
+          | inr y ↦
+              let z = y.0 in
+              let size = N.next_some small x.at z.element z.next in
+              let to = N.cell_add x.at z.element in
+              let same = is.add x.at z.element size in
+              let whole = part_text charset cells ks to in
+              inr (
+                record {
+                  bytes = z.bytes;
+                  element = z.element;
+                  ahead = z.ahead;
+                  spelt = N.Inside-Spelt _ _ up is _ _ _ z.spelt;
+                  next = grind arith;
+                  takes = z.takes;
+                  between = z.between;
+                  middle = z.middle;
+                  few = z.few;
+                  puts = (z.puts.0, grind (arith, begun_text, N.append_assoc), z.puts.2);
+                  more = z.more ++ rest_of charset cells ks to;
+                  text_is = grind (arith, begun_text, N.append_assoc);
+                  breaks = N.WritesPrefix-longer _ _ _ _ _ z.breaks;
+                },
+                y.1,
+              )
         ];
       }
 
-  pub marked_stops : {p : At} {e : Halt} (c : Column) → until (StopsCell charset c.kind (length cells) (ends ks)) p e
+  pub marked_stops : {column : ℕ} {p : At} {e : Halt} (c : Column) → length cells ≡ column → until (StopsCell charset c.kind column (ends ks)) p e
       → until (RowStops charset (N.InCell cells (N.cell_start c.kind (N.shape charset c.kind)) ks)) p e
-  marked_stops c x = rw (← begins_open charset cells ks c.kind _) (stops_there (grind arith) x)
+  marked_stops c counted x = rw (← begins_open charset cells ks c.kind _) (stops_there (grind arith) (rw (sym counted) at x))
 
 -- ---- column after column
 
@@ -102,7 +91,7 @@ all_ahead _ [] nulls some = grind arith
 all_ahead _ (c ∷ cs) _ _ = grind (arith, nulls_text)
 
 -- the bitmap was read
-pub bitmap_nears : {charset : Charset} {p : At} {b : PayloadView} {place' : ℕ} (columns : List Column) (bitmap : List ℕ) → 0 < length columns
+pub bitmap_nears : {charset : Charset} {p : At} {b : N.PayloadView} {place' : ℕ} (columns : List Column) (bitmap : List ℕ) → 0 < length columns
     → length bitmap ≡ N.bitmap_length (length columns) → N.Takes p.seen b bitmap (length bitmap) → N.IsBetween b → N.HasRoom p.held
     → N.Counts p.held
     → place' ≡ p.place + length bitmap → NearsCells charset (N.Bitmap columns) (N.marked columns (N.bit bitmap) 0) p
@@ -111,17 +100,10 @@ bitmap_nears {p = p} _ bitmap some whole takes between few d at =
     let next : N.IsNext _ _ bitmap = grind arith in
     record {
       cells = [];
-      counted = refl;
+      counted = N.refl;
       nears = N.nears_from _ _ _ _ _ _ _ _ _ _ _ (streams_of (path_none {p = p} d)) next takes between few d (all_ahead _ _ _ some);
       place_is = at;
     }
-
--- the payload stopped in the bitmap
-pub bitmap_cut : {columns : List Column} {a b : PayloadView} {place : ℕ} {h : SinkView} {stop : Stop} (charset : Charset) (part : List ℕ) (own : Stop)
-    → length part < N.bitmap_length (length columns) → N.Ends a b part own → stop ≡ N.began_at place own → N.Counts h
-    → RowStops charset (N.Bitmap columns) a b place h h false stop
-bitmap_cut _ _ _ fewer ended is d =
-    record { at = N.Bitmap _; cause = inl (N.cut_at_once _ _ _ _ _ _ _ _ fewer ended (N.began_is_cut _ _ _ _ refl is), ([], refl, N.Puts-none _ d), refl) }
 
 -- a cell was read and its text put, in its row, and no NULL by its bit is after it
 pub cell_path : {ks : List (Column × Bool)} {column : ℕ} {p q : At} (charset : Charset) (c : Column) {cells : List Cell} → length cells ≡ column
@@ -131,12 +113,9 @@ cell_path _ c counted none y =
     let z = rw (sym counted) at y in
     (z.value, N.Paths.path_map (λ a m. row_cell _ _ _ c (rw counted none)) (path_of z.streams z.place_is))
 
-further : (a b e l : List ℕ) (m n k : ℕ) → b ++ e ≡ l → n ≡ m + length a → k ≡ n + length l → k ≡ m + length ((a ++ b) ++ e)
-further a b e l m n k joined first second = grind (arith, N.length-append)
-
 module _ {charset : Charset} {start : RowPart} {c : Column} {ks : List (Column × Bool)} {p q : At} {column : ℕ} where
   -- a NULL by its bit was put
-  pub null_nears : {j : SinkView} → NearsCells charset start ((c, true) ∷ ks) p q column → N.Puts q.held j (N.in_line column (ends ks) N.null_field)
+  pub null_nears : {j : N.SinkView} → NearsCells charset start ((c, N.true) ∷ ks) p q column → N.Puts q.held j (N.in_line column (ends ks) N.null_field)
       → NearsCells charset start ks p (record q { held = j }) (column + 1)
   null_nears x puts = record {
     cells = x.cells ++ N.Null ∷ [];
@@ -146,15 +125,13 @@ module _ {charset : Charset} {start : RowPart} {c : Column} {ks : List (Column �
   }
 
   -- a write of it failed, after more was read
-  pub null_breaks : {d : PayloadView} {j : SinkView} {stop : Stop} (rest : List ℕ) → N.Takes q.seen d rest 0 → N.IsBetween d
-      → NearsCells charset start ((c, true) ∷ ks) p q column → N.WritesPrefix q.held j (N.in_line column (ends ks) N.null_field) stop
-      → RowStops charset start p.seen d p.place p.held j true stop
-  null_breaks {d = d} rest takes between x breaks =
+  pub null_breaks : {e : Halt} {rest : List ℕ} → NearsCells charset start ((c, N.true) ∷ ks) p q column
+      → Breaks q e [] rest (N.in_line column (ends ks) N.null_field) → until (RowStops charset start) p e
+  null_breaks {e} {rest = rest} x y =
       let n = x.nears in
-      let read = n.bytes ++ n.element in
-      let broken = N.nears_breaks _ _ _ _ _ _ _ _ _ _ _ _ _ n refl breaks in
-      let y = broken.1 in
-      let both = N.Takes-trans p.seen q.seen d read rest _ 0 (omega arith) n.takes takes in
+      let broken = N.nears_breaks _ _ _ _ _ _ _ _ _ _ _ _ _ n N.refl y.breaks in
+      let z = broken.1 in
+      let both = N.Takes-trans p.seen q.seen e.seen (n.bytes ++ n.element) rest _ 0 (omega arith) n.takes y.takes in
       record {
         at = broken.0;
         cause = inr (
@@ -162,18 +139,18 @@ module _ {charset : Charset} {start : RowPart} {c : Column} {ks : List (Column �
             bytes = n.bytes;
             element = n.element;
             ahead = rest;
-            spelt = y.spelt;
-            next = y.next;
+            spelt = z.spelt;
+            next = z.next;
             takes = grind arith;
-            between = between;
-            middle = y.middle;
-            few = y.few;
-            puts = y.puts;
-            more = y.more;
-            text_is = y.text_is;
-            breaks = y.breaks;
+            between = y.between;
+            middle = z.middle;
+            few = z.few;
+            puts = z.puts;
+            more = z.more;
+            text_is = z.text_is;
+            breaks = z.breaks;
           },
-          refl,
+          y.failed,
         );
       }
 
@@ -186,7 +163,7 @@ module _ {charset : Charset} {start : RowPart} {c : Column} {ks : List (Column �
 
   pub cell_stops : {e : Halt} → Reads charset start ((c, false) ∷ ks) p q column → until (StopsCell charset c.kind column (ends ks)) q e
       → until (RowStops charset start) p e
-  cell_stops x y = N.Paths.path_stops x.path (marked_stops _ _ _ c (rw (sym x.counted) at y))
+  cell_stops x y = N.Paths.path_stops x.path (marked_stops _ _ _ c x.counted y)
 
   -- a cell was read and its text put, and NULLs may be after it
   pub cell_nears : {r : At} → N.IsBetween r.seen → N.HasRoom r.held → Reads charset start ((c, false) ∷ ks) p q column
@@ -200,33 +177,23 @@ module _ {charset : Charset} {start : RowPart} {c : Column} {ks : List (Column �
       let whole =
       N.nears_inside _ _ _ (cell_in_row charset x.cells ks) _ _ _ (begun_text charset x.cells ks) (line_grows n _) begin _ _ _ _ _ tail
       z.streams some between few (part_text charset x.cells ks (N.WholeCell z.value)) in
+      let joined = (N.last_read _ begin _ _ z.streams.spelt some).joined in
       let begun = rw (sym (begins_open charset x.cells ks c.kind (N.shape charset c.kind))) at x.path in
       let near : NearsCells charset start ks p r _ = record {
         cells = x.cells ++ z.value ∷ [];
         counted = N.length-append x.cells _;
         nears = N.nears_after _ _ start _ p.seen q.seen r.seen p.held q.held r.held _ tail (streams_of begun) whole;
-        place_is = further begun.bytes _ _ _ p.place q.place r.place ((N.last_read _ begin _ _ _ some).joined) begun.place_is z.place_is;
+        place_is = omega (arith, N.length-append {A = ℕ}, N.ap length joined);
       } in
       rw x.counted at near
 
 module _ {charset : Charset} {start : RowPart} {ks : List (Column × Bool)} {p q : At} {column : ℕ} where
   -- no NULL by its bit is next, so all text was put
-  pub all_put : nulls_ahead column ks ≡ [] → N.Counts q.held → NearsCells charset start ks p q column
-      → Reads charset start ks p q column
+  pub all_put : nulls_ahead column ks ≡ [] → N.Counts q.held → NearsCells charset start ks p q column → Reads charset start ks p q column
   all_put none d x =
       let last : N.Puts q.held q.held _ = rw none (N.Puts-none q.held d) in
-      record {
-        cells = x.cells;
-        counted = x.counted;
-        path = path_of
-            (N.nears_done _ _ start p.seen q.seen p.held q.held q.held _ _ x.nears last) x.place_is;
-      }
+      record { cells = x.cells; counted = x.counted; path = path_of (N.nears_done _ _ start p.seen q.seen p.held q.held q.held _ _ x.nears last) x.place_is }
 
--- before the first column of a ROW, and after the last one of a row
-pub row_begins : {charset : Charset} {p : At} (columns : List Column) → N.Counts p.held
-    → Reads charset (N.row_start N.PlainRow charset columns) (coming columns 0) p p 0
-row_begins _ d = grind (arith, path_none)
-
-pub row_ends : {charset : Charset} {start : RowPart} {p q : At} {column : ℕ} → Reads charset start [] p q column
-    → over (N.ReadsRow charset start) p q
+-- after the last column of a row
+pub row_ends : {charset : Charset} {start : RowPart} {p q : At} {column : ℕ} → Reads charset start [] p q column → over (N.ReadsRow charset start) p q
 row_ends x = record { cells = x.cells; streams = grind arith; place_is = cc }

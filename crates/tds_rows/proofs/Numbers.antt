@@ -1,7 +1,7 @@
 -- The numbers of a long value, its length or total and those of its chunks, as elements of its cell: how each is judged, and where it leads.
 use Rattle.tds_rows.proofs as N
-use N.{◌-◌, ◌%◌, ◌||◌, if◌then◌else◌, ◌≡◌, ◌≢◌, ◌∙◌, ◌⊎◌, ℕ, ◌+◌, ◌<◌, List, [], refl, ap, arith, Option, Some, None, ◌==◌, Fault, PayloadView, Stop, ◌^◌, unit}
-use N.{CellPart, ChunkLength, Total}
+use N.{◌-◌, ◌%◌, ◌||◌, ◌≡◌, ◌≢◌, ◌∙◌, ◌⊎◌, ℕ, ◌+◌, ◌<◌, List, [], refl, arith, Option, Some, None, ◌==◌, Fault, Stop, ◌^◌, CellPart, ChunkLength, Total}
+use N.{if◌then◌else◌}
 use N.Words.{cell}
 use Rattle.tds_packet.specs.declared.payload.Payload.{Payload as Input}
 
@@ -13,7 +13,7 @@ short_left c left content = if left == 0 then N.WholeCell (N.DataCell c content)
 abbrev pub chunk_left : N.Conversion → Option ℕ → ℕ → List ℕ → CellPart
 chunk_left c total left content = if left == 0 then ChunkLength c total content else N.ChunkData c total (left - 1) content
 
--- the fault of the length of a short value, by the bytes of a unit
+-- the fault of the length of a short value, by the bytes of a N.unit
 abbrev pub short_fault : ℕ → ℕ → ℕ → Option Fault
 short_fault column size n = N.unless ((n == 0xFFFF) || (n % size == 0)) (N.OddText column)
 
@@ -30,7 +30,7 @@ abbrev pub total_of : ℕ → Option (Option ℕ)
 total_of n = if n == (2 ^ 64 - 1) then None else Some (N.known_total n)
 
 -- An element of a cell was read, which leads from one state to another.
-pub record Next (column : ℕ) (s : CellPart) (a b : PayloadView) (place place' : ℕ) (t : CellPart) : Type 0 where
+pub record Next (column : ℕ) (s : CellPart) (a b : N.PayloadView) (place place' : ℕ) (t : CellPart) : Type 0 where
   pub element : List ℕ
   pub next : N.IsNext (cell column) s element
   pub to : N.cell_add s element ≡ t
@@ -39,7 +39,7 @@ pub record Next (column : ℕ) (s : CellPart) (a b : PayloadView) (place place' 
   pub place_is : place' ≡ place + N.length element
 
 -- it was refused, or is cut
-number_stops : {column size place : ℕ} {s : CellPart} {fault : ℕ → Option Fault} {a b : PayloadView} {stop : Stop} → 0 < size → N.cell_size s ≡ size
+number_stops : {column size place : ℕ} {s : CellPart} {fault : ℕ → Option Fault} {a b : N.PayloadView} {stop : Stop} → 0 < size → N.cell_size s ≡ size
     → N.cell_end s ≡ Some N.MessageEnded → ((e : List ℕ) (n : ℕ) (f : Fault) → N.little e ≡ n → fault n ≡ Some f → N.cell_fault column s e ≡ Some f)
     → N.RefusesNumber size fault a b place stop ⊎ N.CutsBytes size a b place stop → N.StopsReading (cell column) s a b place s stop
 number_stops {column = column} {place = place} {s = s} {a = a} {b = b} {stop = stop} some is _ first (N.inl x) =
@@ -48,15 +48,15 @@ number_stops {column = column} {place = place} {s = s} {a = a} {b = b} {stop = s
     (N.refused_at_once _ s a b _ _ _ (omega arith) (r.whole ∙ N.sym is) (first _ x.n _ r.number x.first) r.takes r.between)
 number_stops _ is end _ (N.inr x) = grind arith
 
--- ---- the length of a short value
+-- ---- the length of a short value, a total, and the length of a chunk
 
-module _ {column : ℕ} (c : N.Conversion) {size : ℕ} (unit_is : size ≡ unit c) where
-  pub short_stops : {a b : PayloadView} {place : ℕ} {stop : Stop} → N.RefusesNumber 2 (short_fault column size) a b place stop ⊎ N.CutsBytes 2 a b place stop
+module _ {column : ℕ} (c : N.Conversion) {size : ℕ} (unit_is : size ≡ N.unit c) {a b : N.PayloadView} {place : ℕ} where
+  pub short_stops : {stop : Stop} → N.RefusesNumber 2 (short_fault column size) a b place stop ⊎ N.CutsBytes 2 a b place stop
       → N.StopsReading (cell column) (N.ShortLength c) a b place (N.ShortLength c) stop
   short_stops x = number_stops (omega arith) refl refl (λ e n f is first. grind arith) x
 
   -- as a call read it
-  module _ {a b : PayloadView} {place place' : ℕ} {answer : Option ℕ} (x : (n : ℕ) × N.ReadsNumber 2 a b place place' n × (short_fault column size n ≡ None)
+  module _ {place' : ℕ} {answer : Option ℕ} (x : (n : ℕ) × N.ReadsNumber 2 a b place place' n × (short_fault column size n ≡ None)
       × (answer ≡ short_length n)) where
     pub short_none : answer ≡ None → Next column (N.ShortLength c) a b place place' (N.WholeCell N.Null)
     short_none is = grind arith
@@ -64,22 +64,19 @@ module _ {column : ℕ} (c : N.Conversion) {size : ℕ} (unit_is : size ≡ unit
     pub short_start : {k : ℕ} → answer ≡ Some k → Next column (N.ShortLength c) a b place place' (short_left c k [])
     short_start is = grind arith
 
-  pub total_stops : {a b : PayloadView} {place : ℕ} {stop : Stop} → N.RefusesNumber 8 (total_fault column size) a b place stop ⊎ N.CutsBytes 8 a b place stop
+  pub total_stops : {stop : Stop} → N.RefusesNumber 8 (total_fault column size) a b place stop ⊎ N.CutsBytes 8 a b place stop
       → N.StopsReading (cell column) (Total c) a b place (Total c) stop
   total_stops x = number_stops (omega arith) refl refl (λ e n f is first. grind arith) x
 
-  module _ {a b : PayloadView} {place place' : ℕ} {answer : Option (Option ℕ)} (x : (n : ℕ) × N.ReadsNumber 8 a b place place' n
-      × (total_fault column size n ≡ None) × (answer ≡ total_of n)) where
+  module _ {place' : ℕ} {answer : Option (Option ℕ)} (x : (n : ℕ) × N.ReadsNumber 8 a b place place' n × (total_fault column size n ≡ None)
+      × (answer ≡ total_of n)) where
     pub total_none : answer ≡ None → Next column (Total c) a b place place' (N.WholeCell N.Null)
     total_none is = grind arith
 
     pub total_start : {t : Option ℕ} → answer ≡ Some t → Next column (Total c) a b place place' (ChunkLength c t [])
     total_start is = grind arith
 
--- ---- the length of a chunk
-
-module _ {column : ℕ} (c : N.Conversion) {size : ℕ} (unit_is : size ≡ unit c) {total : Option ℕ} where
-  module _ {content : List ℕ} {sum : ℕ} (counted : N.length content ≡ sum) {a b : PayloadView} {place : ℕ} where
+  module _ {total : Option ℕ} {content : List ℕ} {sum : ℕ} (counted : N.length content ≡ sum) where
     pub chunk_stops : {stop : Stop} → N.RefusesNumber 4 (λ n. N.chunk_length_fault column size total sum n) a b place stop ⊎ N.CutsBytes 4 a b place stop
         → N.StopsReading (cell column) (ChunkLength c total content) a b place (ChunkLength c total content) stop
     chunk_stops x = number_stops (omega arith) refl refl (λ e n f is first. grind arith) x
@@ -93,7 +90,7 @@ module _ {column : ℕ} (c : N.Conversion) {size : ℕ} (unit_is : size ≡ unit
       pub chunk_unfit : n ≡ 0 → N.is_fit c content ≡ N.false
           → N.StopsReading (cell column) (ChunkLength c total content) a b place (ChunkLength c total content)
           (record { fault = N.BadText column; place = N.Payload place })
-      chunk_unfit none unfit = N.refused_at_once _ _ a b place _ _ (omega arith) x.whole (grind arith ∙ ap (λ f. N.unless f (N.BadText column)) unfit)
+      chunk_unfit none unfit = N.refused_at_once _ _ a b place _ _ (omega arith) x.whole (grind arith ∙ N.ap (λ f. N.unless f (N.BadText column)) unfit)
           x.takes x.between
 
       -- the length of a chunk was read
@@ -128,7 +125,7 @@ pub total_blames : (column size n : ℕ) → NoDevice (total_fault column size n
 total_blames _ _ n = grind arith
 
 -- a length that was refused or cut
-pub length_blames : {R : Type 0} {size : ℕ} {b : PayloadView} {stop : Stop} (remaining : N.Tells R) {fault : ℕ → Option Fault} (old : Input R)
+pub length_blames : {R : Type 0} {size : ℕ} {b : N.PayloadView} {stop : Stop} (remaining : N.Tells R) {fault : ℕ → Option Fault} (old : Input R)
     → old.stopped ≡ None → ((n : ℕ) → NoDevice (fault n))
     → N.RefusesNumber size fault (N.seen remaining old) b old.place stop ⊎ N.CutsBytes size (N.seen remaining old) b old.place stop
     → ReadBlames old.from.now.failures b.failures stop

@@ -10,20 +10,16 @@ use Rattle.tds_cells.proofs.CellMeaning.{is_ok_value}
 
 -- ---- elements
 
-step_none : {s : CellPart} {a : PayloadView} {place : ℕ} → N.IsBetween a → StepsOver s s a a place place
-step_none between = record { reads = grind arith; between = between; place_is = omega arith }
+module _ {s t : CellPart} {a b d : PayloadView} {place middle : ℕ} (x : StepsOver s t a b place middle) where
+  steps_both : {u : CellPart} {place' : ℕ} → StepsOver t u b d middle place' → StepsOver s u a d place place'
+  steps_both y = record { reads = grind (arith, N.reads_both); between = y.between; place_is = grind (arith, N.length-append) }
 
-steps_both : {s t u : CellPart} {a b d : PayloadView} {place middle place' : ℕ} → StepsOver s t a b place middle → StepsOver t u b d middle place'
-    → StepsOver s u a d place place'
-steps_both x y = record {
-  reads = grind (arith, N.reads_both);
-  between = y.between;
-  place_is = grind (arith, N.length-append);
-}
+  pub stops_after_steps : {stop : Stop} → N.StopsPassing t b d middle stop → N.StopsPassing s a d place stop
+  stops_after_steps y = grind (arith, N.stops_after)
 
-pub stops_after_steps : {s t : CellPart} {a b d : PayloadView} {place middle : ℕ} {stop : Stop} → StepsOver s t a b place middle
-    → N.StopsPassing t b d middle stop → N.StopsPassing s a d place stop
-stops_after_steps x y = grind (arith, N.stops_after)
+  -- a value after what was read of it
+  pub cell_after : {place' : ℕ} → N.PassesCell t b d middle place' → N.PassesCell s a d place place'
+  cell_after y = record { value = y.value; steps = steps_both y.steps }
 
 -- ---- data, byte by byte
 
@@ -36,11 +32,7 @@ module _ {c : Conversion} {state : ℕ → List ℕ → CellPart} {Good : List �
   data_steps : {m : ℕ} {a b : PayloadView} {place place' : ℕ} (d : List ℕ) (x : PassesData m a b place place') → Good (d ++ x.bytes)
       → StepsOver (state m d) (state 0 (d ++ x.bytes)) a b place place'
   data_steps d x good = record {
-    reads = record {
-      bytes = x.bytes;
-      spelt = content_spelt true holds d x.bytes _ 0 (omega arith) (begins _) (λ _ _. good);
-      takes = grind arith;
-    };
+    reads = record { bytes = x.bytes; spelt = content_spelt true holds d x.bytes _ 0 (omega arith) (begins _) (λ _ _. good); takes = grind arith };
     between = x.between;
     place_is = omega arith;
   }
@@ -64,11 +56,6 @@ module _ {c : Conversion} {state : ℕ → List ℕ → CellPart} {Good : List �
         };
       }
 
--- a scalar's cell stops as any
-pub scalar_stops : {from : CellPart} {a b : PayloadView} {place : ℕ} {stop : Stop} → N.StallsCell from return_column a b place stop
-    → N.StopsPassing from a b place stop
-scalar_stops x = grind arith
-
 -- what is written of a cell is its spelling
 written_spelt : {from : CellPart} {last : N.Bool} {bytes text : List ℕ} → N.WritesCell from return_column last bytes text → (value : Cell)
     × N.Spelt (cell return_column) from bytes (N.WholeCell value)
@@ -80,8 +67,7 @@ pub scalar_whole : (charset : N.Charset) (kind : N.Kind) (bytes : List ℕ) → 
     → (value : Cell) × N.Spelt (cell return_column) (N.start_of charset kind) bytes (N.WholeCell value)
 scalar_whole charset kind bytes scalar whole good = go _ refl
   where
-    go : (n : ℕ) → N.value_length kind bytes ≡ n → (value : Cell)
-        × N.Spelt (cell return_column) (N.start_of charset kind) bytes (N.WholeCell value)
+    go : (n : ℕ) → N.value_length kind bytes ≡ n → (value : Cell) × N.Spelt (cell return_column) (N.start_of charset kind) bytes (N.WholeCell value)
     go N.zero e =
         let x = null_cell charset kind _ true bytes _ scalar _ refl e (omega arith) refl in
         rw (N.take_all (N.value_start kind + 0) bytes (omega arith)) at (written_spelt x)
@@ -91,8 +77,7 @@ scalar_whole charset kind bytes scalar whole good = go _ refl
         rw (N.take_all (N.value_start kind + N.value_length kind bytes) bytes (omega arith)) at (written_spelt x)
 
 pub passes_none : {n : ℕ} {a : PayloadView} {place : ℕ} → n ≡ 0 → N.IsBetween a → PassesData n a a place place
-passes_none none between =
-    grind arith
+passes_none none between = grind arith
 
 pub passes_more : {m n k : ℕ} {a b d : PayloadView} {place middle place' : ℕ} → k ≡ m + n → PassesData m a b place middle → PassesData n b d middle place'
     → PassesData k a d place place'
@@ -122,19 +107,7 @@ pub scalar_passes : {kind : N.Kind} {a b : PayloadView} {place place' : ℕ} {by
     → N.PassesCell (N.start_of charset kind) a b place place'
 scalar_passes {bytes = bytes} _ scalar x good =
     let v = scalar_whole _ _ _ scalar x.whole good in
-    record {
-      value = v.0;
-      steps = record {
-        reads = record { bytes = bytes; spelt = v.1; takes = x.takes };
-        between = x.between;
-        place_is = x.place_is;
-      };
-    }
-
--- a value after what was read of it
-pub cell_after : {s t : CellPart} {a b d : PayloadView} {place middle place' : ℕ} → StepsOver s t a b place middle → N.PassesCell t b d middle place'
-    → N.PassesCell s a d place place'
-cell_after x y = record { value = y.value; steps = steps_both x y.steps }
+    record { value = v.0; steps = record { reads = record { bytes = bytes; spelt = v.1; takes = x.takes }; between = x.between; place_is = x.place_is } }
 
 -- the data of a short value after its length
 module _ {c : Conversion} {size n : ℕ} {a b d : PayloadView} {place middle : ℕ} (any : AnyData c size)
@@ -142,8 +115,7 @@ module _ {c : Conversion} {size n : ℕ} {a b d : PayloadView} {place middle : �
   pub short_passes : {place' : ℕ} → n % size ≡ 0 → PassesData n b d middle place' → N.PassesCell (N.ShortLength c) a d place place'
   short_passes even y = cell_after x (record {
     value = N.DataCell c y.bytes;
-    steps = data_steps (short_holds return_column c) (any_begins any) [] y
-        (grind arith);
+    steps = data_steps (short_holds return_column c) (any_begins any) [] y (grind arith);
   })
 
   pub short_cuts : {stop : Stop} → N.CutsPassing n b d middle stop → N.StopsPassing (N.ShortLength c) a d place stop
@@ -156,7 +128,7 @@ pub record WalksChunks (c : Conversion) (total : Option ℕ) (sum : ℕ) (old ne
   pub steps : StepsOver (ChunkLength c total []) (ChunkLength c total content) old new place place'
 
 pub chunks_none : {c : Conversion} {total : Option ℕ} {a : PayloadView} {place : ℕ} → N.IsBetween a → WalksChunks c total 0 a a place place
-chunks_none between = record { content = []; counted = refl; steps = step_none between }
+chunks_none between = record { content = []; counted = refl; steps = record { reads = grind arith; between = between; place_is = omega arith } }
 
 module _ {c : Conversion} {total : Option ℕ} {sum : ℕ} {a b d : PayloadView} {place middle there : ℕ} (x : WalksChunks c total sum a b place middle) where
   pub chunks_end : StepsOver (ChunkLength c total x.content) (N.WholeCell (N.DataCell c x.content)) b d middle there
@@ -198,14 +170,3 @@ module _ {c : Conversion} {size : ℕ} (any : AnyData c size) where
 
     pub chunk_steps : k ≢ 0 → StepsOver (ChunkLength c total content) (N.Numbers.chunk_left c total k content) a b place place'
     chunk_steps some = rw (N.sym is) at (steps_of (N.Numbers.chunk_start c (N.sym any.unit_is) counted x free (λ e. some (is ∙ e))))
-
--- ---- the data of a RETURNVALUE may be any bytes
-
-pub any_hex : AnyData N.HexDigits 1
-any_hex = grind arith
-
-pub any_narrow : AnyData N.Windows1252Text 1
-any_narrow = grind arith
-
-pub any_wide : AnyData N.Utf16Text 2
-any_wide = grind arith

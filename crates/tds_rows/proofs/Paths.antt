@@ -1,6 +1,6 @@
 -- What bytes make by a grammar, and how a call that reads them and puts what they make goes from place to place.
 use Rattle.tds_rows.proofs as N
-use N.{◌≡◌, ◌⊎◌, ℕ, ◌+◌, ◌-◌, ◌^◌, ◌≤◌, List, [], ◌++◌, Fault, SinkView, PayloadView}
+use N.{◌≡◌, ◌⊎◌, ℕ, ◌+◌, ◌-◌, List, [], ◌++◌, Fault, SinkView, PayloadView, Tells, Bool, Stop}
 use Rattle.tds_packet.specs.declared.payload.Payload.{Payload}
 use Rattle.tds_cells.proofs.GrammarTexts.{writes_both, writes_none}
 
@@ -10,20 +10,20 @@ pub record At : Type 0 where
   pub place : ℕ
   pub held : SinkView
 
-abbrev pub at_of : {R W : Type 0} → N.Tells R → N.Tells W → Payload R → N.Sink W → At
+abbrev pub at_of : {R W : Type 0} → Tells R → Tells W → Payload R → N.Sink W → At
 at_of remaining contents payload sink = record { seen = N.seen remaining payload; place = payload.place; held = N.held contents sink }
 
-abbrev pub here : {R W : Type 0} → N.Tells R → N.Tells W → N.Rows R W → At
+abbrev pub here : {R W : Type 0} → Tells R → Tells W → N.Rows R W → At
 here remaining contents rows = at_of remaining contents rows.payload.now rows.sink.now
 
 -- how a call stopped: what the payload is seen to give then, what the sink holds, whether a write failed, and the stop
 pub record Halt : Type 0 where
   pub seen : PayloadView
   pub held : SinkView
-  pub failed : N.Bool
-  pub stop : N.Stop
+  pub failed : Bool
+  pub stop : Stop
 
-abbrev pub halt : {R W : Type 0} → N.Tells R → N.Tells W → N.Rows R W → N.Stop → Halt
+abbrev pub halt : {R W : Type 0} → Tells R → Tells W → N.Rows R W → Stop → Halt
 halt remaining contents rows stop = record {
   seen = N.seen remaining rows.payload.now;
   held = N.held contents rows.sink.now;
@@ -36,8 +36,17 @@ abbrev pub over : {T : Type 1} → (PayloadView → PayloadView → ℕ → ℕ 
 over f p q = f p.seen q.seen p.place q.place p.held q.held
 
 -- a relation between a place and how a call stopped after it
-abbrev pub until : {T : Type 1} → (PayloadView → PayloadView → ℕ → SinkView → SinkView → N.Bool → N.Stop → T) → At → Halt → T
+abbrev pub until : {T : Type 1} → (PayloadView → PayloadView → ℕ → SinkView → SinkView → Bool → Stop → T) → At → Halt → T
 until f p e = f p.seen e.seen p.place p.held e.held e.failed e.stop
+
+-- These bytes and more were handed out without a packet, and a write of their text failed.
+pub record Breaks (p : At) (e : Halt) (bytes rest text : List ℕ) : Type 0 where
+  pub takes : N.Takes p.seen e.seen (bytes ++ rest) 0
+  pub between : N.IsBetween e.seen
+  pub few : N.HasRoom p.held
+  pub delivered : N.Counts p.held
+  pub breaks : N.WritesPrefix p.held e.held text e.stop
+  pub failed : e.failed ≡ N.true
 
 -- From one place to another bytes were read, and what they make was put.
 pub record Path {S : Type 0} (g : N.Grammar S Fault) (text : S → List ℕ) (s : S) (p q : At) (t : S) : Type 0 where
@@ -88,15 +97,15 @@ path_map f x = search N.rules
 -- ---- how a cell, its end and a row stop
 
 -- A cell wasn't read whole or is refused, or a write of its text failed.
-abbrev pub StopsField : N.CellPart → ℕ → N.Bool → PayloadView → PayloadView → ℕ → SinkView → SinkView → N.Bool → N.Stop → Type 0
+abbrev pub StopsField : N.CellPart → ℕ → Bool → PayloadView → PayloadView → ℕ → SinkView → SinkView → Bool → Stop → Type 0
 StopsField from column last = N.StopsStreaming (N.Words.cell column) (N.cell_so_far column last) from
 
 -- The content is whole, and a write of its end failed; or it isn't, and nothing was put.
-abbrev pub StopsEnding : N.Conversion → N.Bool → N.Bool → List ℕ → ℕ → ℕ → SinkView → SinkView → N.Bool → N.Stop → Type 0
+abbrev pub StopsEnding : N.Conversion → Bool → Bool → List ℕ → ℕ → ℕ → SinkView → SinkView → Bool → Stop → Type 0
 StopsEnding c quoted last content column place before after failed stop =
     (N.IsFit c content × N.WritesPrefix before after (N.ending c quoted last content) stop × (failed ≡ N.true))
     ⊎ ((N.IsFit c content → ⊥) × (after ≡ before) × (stop ≡ record { fault = N.BadText column; place = N.Payload place }) × (failed ≡ N.false))
 
 -- Reading a row stopped: at an element that is refused or cut, with the text of the state that it reached; or in writing.
-abbrev pub RowStops : N.Charset → N.RowPart → PayloadView → PayloadView → ℕ → SinkView → SinkView → N.Bool → N.Stop → Type 0
+abbrev pub RowStops : N.Charset → N.RowPart → PayloadView → PayloadView → ℕ → SinkView → SinkView → Bool → Stop → Type 0
 RowStops charset = N.StopsStreaming (N.Words.row charset) N.row_so_far

@@ -1,7 +1,6 @@
 -- A call that reads what comes whole stops only where a device fails.
 use Rattle.tds_rows.proofs as N
-use N.{◌≡◌, ◌∙◌, inl, inr, ℕ, ◌+◌, ◌<◌, List, [], ◌∷◌, ◌++◌, length, ap, arith, Ok, Err, if◌then◌else◌, Rose, Fault, Stop, before, Grammar, Spelt, Cell}
-use N.{Brings}
+use N.{◌≡◌, ◌∙◌, inl, inr, ℕ, ◌+◌, ◌<◌, List, [], ◌∷◌, ◌++◌, length, ap, arith, Ok, Err, Rose, Fault, Stop, before, Grammar, Spelt, Cell, Brings, if◌then◌else◌}
 use N.Paths.{At}
 use N.Words.{row}
 use Rattle.tds_packet.specs.declared.payload.Payload.{Payload}
@@ -29,11 +28,7 @@ module _ {S : Type 0} (g : Grammar S Fault) (from to : S) (a b : N.PayloadView) 
       let c = came _ _ x.takes.1.0 (grind arith) in
       let rest = e ++ (x.ahead ++ c.0) in
       let all = c.1 ∙ N.append_assoc _ x.ahead c.0 ∙ N.append_assoc bytes e _ in
-      let refused : N.IsRefused g at rest fault = record {
-        some = omega arith;
-        whole = grind (arith, N.length-append);
-        first = grind (arith, N.take-append_seam);
-      } in
+      let refused : N.IsRefused g at rest fault = grind (arith, N.length-append, N.take-append_seam) in
       (N.one_longest g _ _ _ _ _ _ (rw (← all) at (N.longest_refused g _ _ _ _ _ spelt refused)) last).1
 
   cut_there : (at : S) (bytes : List ℕ) (place : ℕ) (stop : Stop) → Spelt g from bytes at → N.CutsNext g a b bytes place at stop → at ≡ to
@@ -62,16 +57,6 @@ none_stops_reading {stop = stop} g from to front more brings spelt none reads x 
     let some = N.stops_size g from _ _ _ _ stop x in
     omega (arith, ap g.size there)
 
--- a call that reads whole elements to a state at which nothing follows, and puts their text, doesn't stop
-pub none_stops : {S : Type 0} {a b : N.PayloadView} {place : ℕ} {h i : N.SinkView} {failed : N.Bool} {stop : Stop} {g : Grammar S Fault} {text : S
-    → List ℕ} {from to : S} {front : List ℕ} (more : List ℕ) → Brings a (front ++ more) → Spelt g from front to → g.size to ≡ 0
-    → (Rose a.failures b.failures → ⊥) → (Rose h.failures i.failures → ⊥) → N.StopsStreaming g text from a b place h i failed stop → ⊥
-none_stops {g} _ brings spelt none reads writes x = elim x.cause [
-  | inl y ↦ none_stops_reading g _ _ _ _ brings spelt none reads y.0
-  | inr y ↦
-      (grind arith)
-]
-
 -- ---- the calls
 
 -- one that reads to such a state and puts the text succeeds
@@ -81,10 +66,12 @@ pub streaming_succeeds : {S U : Type 0} {from to : S} {bytes : List ℕ} {g : Gr
     → Brings p.seen (bytes ++ more) → (Rose p.seen.failures b.failures → ⊥) → (Rose p.held.failures j.failures → ⊥) → N.is_ok result ≡ N.true
 streaming_succeeds _ _ _ _ _ (Ok x) _ P _ _ _ = grind arith
 streaming_succeeds _ _ _ _ _ (Err stop) more P put spelt none =
-    λ brings reads writes. absurd (none_stops more brings spelt none reads writes put)
+    λ brings reads writes. absurd (elim put.cause [
+      | inl y ↦ none_stops_reading _ _ _ _ _ brings spelt none reads y.0
+      | inr y ↦ (grind arith)
+    ])
 
-pub value_passes : {R U : Type 0} (remaining : N.Tells R) (kind : N.Kind) (old new : Payload R) (result : N.Result U Stop) (value : Cell)
-    (bytes more : List ℕ)
+pub value_passes : {R U : Type 0} (remaining : N.Tells R) (kind : N.Kind) (old new : Payload R) (result : N.Result U Stop) (value : Cell) (bytes more : List ℕ)
     → N.CellPassed remaining (N.cell_start kind (N.shape N.return_charset kind)) old new result → N.SpellsCell kind (N.shape N.return_charset kind) value bytes
     → Brings (N.seen remaining old) (bytes ++ more) → (Rose old.from.now.failures new.from.now.failures → ⊥) → N.is_ok result ≡ N.true
 value_passes _ _ _ _ (Ok x) _ _ _ _ _ = grind arith
@@ -94,8 +81,8 @@ value_passes _ _ _ _ (Err stop) _ _ _ passed spelt = λ brings reads.
 
 pub long_is_read : (column : ℕ) (kind : N.Kind) (c : N.Conversion) (reach : N.Reach) (value : Cell) (bytes : List ℕ)
     → N.SpellsCell kind (N.LongShape c reach) value bytes → Spelt (N.Words.cell column) (N.long_start c reach) bytes (N.WholeCell value)
-long_is_read column kind c N.Short value bytes h = cell_is_read column kind (N.LongShape c N.Short) value bytes tt h
-long_is_read column kind c N.Chunked value bytes h = cell_is_read column kind (N.LongShape c N.Chunked) value bytes tt h
+long_is_read _ kind c N.Short _ _ h = cell_is_read _ kind (N.LongShape c N.Short) _ _ tt h
+long_is_read _ kind c N.Chunked _ _ h = cell_is_read _ kind (N.LongShape c N.Chunked) _ _ tt h
 
 -- ---- rows, one after another
 
@@ -141,28 +128,21 @@ module _ (token : N.RowToken) (charset : N.Charset) (columns : List N.Column) (s
   longest_rows _ _ _ _ (byte ∷ more) spelt none = N.longest_refused _ _ _ _ _ _ spelt
       (record { some = omega arith; whole = omega arith; first = ap (λ b. if b then N.None else N.Some (N.RefusedToken byte)) none })
 
-  rows_stop_not : {a b : N.PayloadView} {place : ℕ} {h i : N.SinkView} {failed : N.Bool} {stop : Stop} (first : List Cell) (later : List (List Cell))
-      (front more : List ℕ) → Brings a (front ++ more) → N.SpellsRows token charset columns first later front → N.BeginNoRow token more
-      → (Rose a.failures b.failures → ⊥) → (Rose h.failures i.failures → ⊥) → N.RowsStop token charset columns a b place h i failed stop → ⊥
-  rows_stop_not {place = place} {stop = stop} first later front more brings spelt none reads writes x = elim x.stops.cause [
-    | inl y ↦
-        (let t = rows_are_read [] first later front spelt in
-        let at = x.stops.at in
-        let some = N.stops_size _ x.part x.middle _ _ at stop y.0 in
-        let among_rows = N.stops_inside _ all_rows _ (row_among_rows token charset columns x.earlier) x.part x.middle _ _ at stop
-        (grind arith) y.0 in
-        let all = N.stops_after all_rows _ _ _ x.middle _ place _ stop
-        (record { bytes = x.streams.bytes; spelt = grind arith; takes = grind arith }) among_rows in
-        let same = stopped_there all_rows _ _ _ _ front more brings (longest_rows _ t.0 t.1 front more t.2 none) reads place _ stop all in
-        omega (arith, ap (row charset).size (ap (λ p. p.at) same)))
-    | inr y ↦
-        (grind arith)
-  ]
-
   pub rows_succeed : {R W : Type 0} (remaining : N.Tells R) (contents : N.Tells W) (old new : Payload R) (before after : N.Sink W)
       (result : N.Result ℕ Stop) (first : List Cell) (later : List (List Cell)) (bytes more : List ℕ)
       → N.RowsRead remaining contents token charset columns old new before after result → N.SpellsRows token charset columns first later bytes
       → N.BeginNoRow token more → N.SucceedsOn remaining old new before after result (bytes ++ more)
   rows_succeed _ _ _ _ _ _ (Ok n) _ _ _ _ _ _ _ = grind arith
-  rows_succeed _ _ _ _ _ _ (Err stop) first later bytes more read spelt none =
-      λ brings reads writes. absurd (rows_stop_not first later bytes more brings spelt none reads writes read)
+  rows_succeed _ _ old _ _ _ (Err stop) first later bytes more read spelt none = λ brings reads writes. absurd (elim read.stops.cause [
+    | inl y ↦
+        (let t = rows_are_read [] first later bytes spelt in
+        let at = read.stops.at in
+        let some = N.stops_size _ read.part read.middle _ _ at stop y.0 in
+        let among_rows = N.stops_inside _ all_rows _ (row_among_rows token charset columns read.earlier) read.part read.middle _ _ at stop
+        (grind arith) y.0 in
+        let all = N.stops_after all_rows _ _ _ read.middle _ old.place _ stop
+        (record { bytes = read.streams.bytes; spelt = grind arith; takes = grind arith }) among_rows in
+        let same = stopped_there all_rows _ _ _ _ bytes more brings (longest_rows _ t.0 t.1 bytes more t.2 none) reads old.place _ stop all in
+        omega (arith, ap (row charset).size (ap (λ p. p.at) same)))
+    | inr y ↦ (grind arith)
+  ])

@@ -3,15 +3,6 @@ use N.cell.chunk_runs.write_chunks.Goals as goal
 use N.{◌*◌, ◌+◌, ◌≤◌, arith, length}
 use N.ChunkRuns.{HasChunk, added_most, chunk_step}
 
-pub loop-total-init : goal.loop-total-init
-loop-total-init g c = record {
-  begun = c.requires.begun;
-  used = omega arith;
-  room = omega arith;
-  few = omega arith;
-  chunks = λ conversion suits content is begun counted column last. N.ChunkRuns.chunks_none conversion column last c.args.total is begun;
-}
-
 pub loop-total-preserved : goal.loop-total-preserved
 loop-total-preserved g c =
     let l = c.loop-total in

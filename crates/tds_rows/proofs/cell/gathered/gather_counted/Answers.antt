@@ -11,8 +11,8 @@ pub returns-then-not-length_allowed-clause-cell : goal.returns-then-not-length_a
 returns-then-not-length_allowed-clause-cell g c =
     let x = c.in_ok-read_into.ensures.gives in
     let taken = N.CellSteps.length_taken c.requires.small.0 (ap (λ l. N.get_or l 0 0) (sym c.bytes.ensures.value)) x in
-    rw (c.refusal.ensures, c.place-place.ensures) (N.CellSteps.length_refused c.if-n-eq0.false (sym c.length_allowed.ensures
-    ∙ c.if-not-length_allowed.true) taken.1 x.between)
+    rw (c.refusal.ensures, c.place-place.ensures) (N.CellSteps.length_refused N.[] c.if-n-eq0.false (sym c.length_allowed.ensures
+    ∙ c.if-not-length_allowed.true) taken.1 (omega N.arith) x.between)
 
 pub returns-clause-cell : goal.returns-clause-cell
 returns-clause-cell g c =

@@ -4,8 +4,7 @@ use N.{sym}
 use N.PassedCells.{cell_after, short_cuts, short_passes, short_even, steps_of}
 
 pub returns-in_err-n-in-Short-clause-cell : goal.returns-in_err-n-in-Short-clause-cell
-returns-in_err-n-in-Short-clause-cell g c = λ kind conversion any.
-    rw c.in-Short.is (N.passed _ _ _ _ c.from_residual.ensures.1
+returns-in_err-n-in-Short-clause-cell g c = λ kind conversion any. rw c.in-Short.is (N.passed _ _ _ _ c.from_residual.ensures.1
     (record { at = _; stops = N.Numbers.short_stops _ (sym any.unit_is) c.in_err-n-in-Short.ensures.length }))
 
 pub returns-in-None-clause-cell : goal.returns-in-None-clause-cell
@@ -17,11 +16,10 @@ returns-in-Some-clause-cell g c = λ kind conversion any.
     let x = steps_of (N.Numbers.short_start _ (sym any.unit_is) c.in_ok-n-in-Short.ensures.length c.in-Some.is) in
     let even = short_even any c.in_ok-n-in-Short.ensures.length c.in-Some.is in
     rw c.in-Short.is
-    (N.MatchResult-weaker _ c.pass_data.ensures.data (λ _ y. short_passes any x even y) (λ stop y. short_cuts any x y))
+    (N.MatchResult-weaker _ c.pass_data.ensures.data (λ _. short_passes any x even) (λ _. short_cuts any x))
 
 pub returns-in_err-total-in-Chunked-clause-cell : goal.returns-in_err-total-in-Chunked-clause-cell
-returns-in_err-total-in-Chunked-clause-cell g c = λ kind conversion any.
-    rw c.in-Chunked.is (N.passed _ _ _ _ c.from_residual-in_err-total-in-Chunked.ensures.1
+returns-in_err-total-in-Chunked-clause-cell g c = λ kind conversion any. rw c.in-Chunked.is (N.passed _ _ _ _ c.from_residual-in_err-total-in-Chunked.ensures.1
     (record { at = _; stops = N.Numbers.total_stops _ (sym any.unit_is) c.in_err-total-in-Chunked.ensures.length }))
 
 pub returns-in-None-2-clause-cell : goal.returns-in-None-2-clause-cell
@@ -35,4 +33,4 @@ pub returns-in-Some-2-clause-cell : goal.returns-in-Some-2-clause-cell
 returns-in-Some-2-clause-cell g c = λ kind conversion any.
     let x = steps_of (N.Numbers.total_start _ (sym any.unit_is) c.in_ok-total-in-Chunked.ensures.length c.in-Some-2.is) in
     rw c.in-Chunked.is
-    (N.MatchResult-weaker _ (c.pass_chunks.ensures.cell conversion any) (λ _ y. cell_after x y) (λ stop y. N.PassedCells.stops_after_steps x y))
+    (N.MatchResult-weaker _ (c.pass_chunks.ensures.cell conversion any) (λ _. cell_after x) (λ _. N.PassedCells.stops_after_steps x))

@@ -8,7 +8,8 @@ pub returns-in-Some-clause-cell : goal.returns-in-Some-clause-cell
 returns-in-Some-clause-cell g c =
     let bad = c.in-Some.ensures in
     let x = rw (N.sym c.bytes.ensures.value) at (c.in_ok-gather_scalar.ensures.cell N.return_charset) in
-    rw (c.refusal.ensures, c.place-place.ensures) (N.PassedCells.scalar_stops (x.refused _ bad.0 bad.1))
+    let y = x.refused _ bad.0 bad.1 in
+    rw (c.refusal.ensures, c.place-place.ensures) (record { at = y.at; stops = y.stops })
 
 pub returns-in-None-clause-cell : goal.returns-in-None-clause-cell
 returns-in-None-clause-cell g c =

@@ -2,19 +2,6 @@ use Rattle.tds_rows.proofs as N
 use N.rows.Rows.put_within.Goals as goal
 use N.{◌≡◌, ◌∙◌, ◌+◌, ◌-◌, ◌≤◌}
 
-pub returns-clause-cells : goal.returns-clause-cells
-returns-clause-cells g c =
-    let run = c.run-run.result in
-    let bytes = N.buffered c.args.self.now.payload.now in
-    record {
-      bytes = N.take run.used bytes;
-      text = N.take run.made c.run-run.new.to;
-      wrote = (rw c.buffered-bytes.ensures at c.run-run.ensures.cells).writes;
-      takes = c.consume.ensures.gives;
-      puts = N.RunPuts.kept_text _ _ _ _ _ c.run-run.auto.to c.waiting-waiting.ensures _ c.commit.ensures.gives;
-      place_is = N.RunPuts.consumed c.args.self.now.payload.now _ c.consume.ensures.rest (search N.arith);
-    }
-
 pub returns-clause-ends : goal.returns-clause-ends
 returns-clause-ends g c =
     let old = c.args.self.now.payload.now in

@@ -9,7 +9,7 @@ loop-format-init g c = record {
   stays = stays c.requires;
   reads = λ columns knows. (
     c.start-at.ensures.ahead columns knows,
-    rw c.start-at.ensures.first (N.NullSteps.row_begins columns c.requires.sink.ready.2),
+    rw c.start-at.ensures.first (record { cells = N.[]; counted = N.refl; path = N.Paths.path_none c.requires.sink.ready.2 }),
   );
 }
 
@@ -20,7 +20,7 @@ returns-in_err-put_cell-clause-row g c =
     let reads = l.reads columns knows in
     let next = c.in-Some.ensures.taken columns knows reads.0 in
     let taken = takes next.0 c.in-Some.ensures.further next.1 in
-    N.passed _ _ _ _ c.from_residual.ensures.1 (N.NullSteps.cell_stops (rw taken.next at reads.1) (cell_read _ c.in_err-put_cell.ensures knows taken)))
+    N.passed _ _ _ _ c.from_residual.ensures.1 (N.NullSteps.cell_stops (rw taken.next at reads.1) (cell_read _ _ _ _ knows taken c.in_err-put_cell.ensures)))
 
 pub loop-format-preserved : goal.loop-format-preserved
 loop-format-preserved g c =
@@ -32,7 +32,7 @@ loop-format-preserved g c =
           let reads = l.reads columns knows in
           let next = c.in-Some.ensures.taken columns knows reads.0 in
           let taken = takes next.0 c.in-Some.ensures.further next.1 in
-          let y = cell_read _ done knows taken in
+          let y = cell_read _ _ _ _ knows taken done in
           (taken.ahead, rw (N.sym taken.further) at (N.NullSteps.cell_reads (none_ahead _ _) (rw taken.next at reads.1) y)));
     }
 
