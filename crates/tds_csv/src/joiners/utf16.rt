@@ -209,6 +209,9 @@ impl Joiner for Utf16Joiner {
 
     fn end<W: Write>(&mut self, sink: &mut Sink<'_, W>) -> Result<(), JoinFault> {
         sink.check()?;
+        if self.kept.bytes().is_empty() {
+            return Ok(());
+        }
         if self.kept.bytes().len() % 2 == 1 {
             return Err(JoinFault::Odd);
         }
