@@ -8,6 +8,7 @@ import threading
 import time
 from collections.abc import Callable, Iterator
 from concurrent.futures import FIRST_COMPLETED, Future, ThreadPoolExecutor, wait
+from typing import NamedTuple
 
 from lib import repository as repo
 
@@ -18,6 +19,9 @@ ROOM = 3_500_000_000
 
 # The most processes that share a proof; more gain nothing.
 MOST_JOBS = 4
+
+# How much later than the others a proof's turn comes, by `nice`, if nothing waits for it.
+LATEST = 10
 
 # What the proofs of all crates take by the clock, from nothing.
 WHOLE = "all of them take 15 to 22 minutes on four processors"
@@ -77,23 +81,40 @@ def first_error(log: str) -> str:
         return next((line.rstrip() for line in lines if ERROR.match(line)), "no line of the log tells an error")
 
 
-def command_for(name: str, jobs: int) -> list[str]:
+def ways_up(names: list[str]) -> dict[str, int]:
+    """How long the way is from each of these crates up to the last that waits for it, in bytes of the sources to prove."""
+    ways: dict[str, int] = {}
+    for name in reversed(names):
+        above = (way for it, way in ways.items() if name in repo.below(it))
+        ways[name] = sum(map(os.path.getsize, repo.sources(name))) + max(above, default=0)
+    return ways
+
+
+class Share(NamedTuple):
+    """What a proof gets of the processors: how many processes, and how much later than others their turn comes."""
+
+    jobs: int
+    later: int
+
+
+def command_for(name: str, share: Share) -> list[str]:
     """The command that proves a crate, and runs it if it is a program."""
+    nice = ["nice", "-n", str(share.later)] if share.later else []
     if not repo.is_program(name):
-        return ["rt", "lib", "--jobs", str(jobs)]
+        return [*nice, "rt", "lib", "--jobs", str(share.jobs)]
     args = repo.path_of("crates", name, "args")
     words = open(args, encoding="utf-8").read().splitlines() if os.path.exists(args) else []
-    return ["rt", "run", "--jobs", str(jobs), "--", *words]
+    return [*nice, "rt", "run", "--jobs", str(share.jobs), "--", *words]
 
 
-def prove(name: str, jobs: int, progress: Progress) -> bool:
-    """Proves one crate over what is proved below it, by this many processes, and returns whether it is."""
+def prove(name: str, share: Share, progress: Progress) -> bool:
+    """Proves one crate over what is proved below it, with this share of the processors, and returns whether it is."""
     began, found = time.monotonic(), repo.sum_of(name)
     log = repo.path_of("bin", "logs", name + ".log")
     os.makedirs(os.path.dirname(log), exist_ok=True)
 
     with open(log, "w", encoding="utf-8") as out, progress.during(name):
-        status = repo.in_room(name, command_for(name, jobs), out.write)
+        status = repo.in_room(name, command_for(name, share), out.write)
     if status:
         progress.end(name, f"not proved\n{first_error(log)}\nThe whole log: {os.path.relpath(log)}")
         return False
@@ -117,26 +138,33 @@ class Proving:
         self.tested = [it for it in names if test and repo.has_tests(it)]
         self.left = [it for it in names if it in lacking or it in self.tested]
         self.proved = {*names} - {*self.left}
-        self.progress, self.most = Progress(names, lacking), at_once()
+        self.progress, self.most, self.ways = Progress(names, lacking), at_once(), ways_up(names)
         self.running: dict[Future[bool], str] = {}
 
-    def work(self, name: str, jobs: int) -> bool:
+    def work(self, name: str, share: Share) -> bool:
         """Proves a crate if it isn't proved, and runs its tests."""
-        if name in self.lacking and not prove(name, jobs, self.progress):
+        if name in self.lacking and not prove(name, share, self.progress):
             return False
         if name in self.tested and self.test:
             with self.progress.during(f"the tests of {name}"):
-                self.test(name, jobs)
+                self.test(name, share.jobs)
         return True
 
+    def share_of(self, name: str, beside: list[str]) -> Share:
+        """What a crate gets beside others: all wait for the one with the longest way up. Each process that helps a proof reads the
+        libraries first, so the other proofs get few more of them than there are processors."""
+        longest = max(self.ways[it] for it in beside)
+        if self.ways[name] == longest:
+            return Share(min(MOST_JOBS, self.most), 0)
+        return Share(min(MOST_JOBS, math.ceil(self.most / len(beside))), round(LATEST * (1 - self.ways[name] / longest)))
+
     def start(self, pool: ThreadPoolExecutor) -> None:
-        """Starts what is ready. Each process that helps a proof reads the libraries first, so proofs get few more of them than
-        there are processors."""
+        """Starts what is ready."""
         ready = [it for it in self.left if self.proved.issuperset(repo.below(it))]
-        jobs = min(MOST_JOBS, math.ceil(self.most / max(1, len(self.running) + len(ready))))
+        beside = [*self.running.values(), *ready]
         for name in ready:
             self.left.remove(name)
-            self.running[pool.submit(self.work, name, jobs)] = name
+            self.running[pool.submit(self.work, name, self.share_of(name, beside))] = name
 
     def take(self) -> None:
         """Waits until something ends. What is above a crate that isn't proved is given up."""
