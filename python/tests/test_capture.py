@@ -8,6 +8,7 @@ import io
 import os
 import random
 import re
+import shutil
 import signal
 import subprocess
 import sys
@@ -140,6 +141,22 @@ class Captures(unittest.TestCase):
                     self.assertTrue(any(part in (line["line"] or "") for part in ("lacking", "InputEnded", "no answer") for line in table))
                 else:
                     self.assertIn(came.returncode, (3, 4))
+
+    def test_a_capture_that_begins_behind_the_first_packet_of_a_request(self) -> None:
+        """Its other packets aren't taken for a request, by their numbers; a client that numbers packets on and on has names behind the first answer."""
+        text = "SELECT * FROM kinds WHERE note = '" + 300 * "b" + "'"
+        packets = [list(tds.packets([tds.statement(it)], 512, tds.PacketType.STATEMENT)) for it in (text, STATEMENTS[0], STATEMENTS[2])]
+        for step in 0, 2:  # how much more the numbers of each request are than those of the one before
+            made = captures.Capture()
+            for place, (request, data) in enumerate(zip(packets, (RESPONSES[0], RESPONSES[0], RESPONSES[2]))):
+                for packet in request[place == 0:]:
+                    made.send(captures.CLIENT, packet[:6] + bytes([packet[6] + place * step]) + packet[7:])
+                made.send(captures.SERVER, data)
+            came, lines = self.captured(made.frames)
+            self.assertEqual((came.returncode, [it["statement"] for it in lines if it["text"]]), (4, [None, *STATEMENTS[::2]]))
+            self.assertIn(f"{sum(map(len, packets[0][1:]))} bytes of the client are in no request", [it["line"] for it in lines])
+            self.assertEqual([*self.texts().values()], [text_of(RESPONSES[0])] * 2 + [text_of(RESPONSES[2])])
+            shutil.rmtree(os.path.join(self.folder, "out"))
 
     def test_captures_that_begin_anywhere(self) -> None:
         frames = conversation().frames

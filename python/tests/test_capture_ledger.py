@@ -281,6 +281,18 @@ class Names(unittest.TestCase):
         self.assert_names(came, ["SELECT 1", ""])
         self.assertTrue(came.told)
 
+    def test_an_attention_that_is_captured_after_its_acknowledgement(self) -> None:
+        """Also where that is in one segment with the end of the answer."""
+        cancelled = packets(4, bytes([0xFD, 0x20, 0]) + bytes(10), 4096, 51)
+        for size in SEGMENT, 5 * SEGMENT:
+            made = Talk().open().exchange(1).send(True, request(2)).send(False, answer(2)[:1000]).send(True, packets(6, b"", 4096, 0))
+            attention = made.segments.pop()
+            made.send(False, answer(2)[1000:] + cancelled, size)
+            made.segments.append(attention)
+            came = come(made.exchange(3))
+            self.assertEqual((came.answers, came.told), ([answer(1), answer(2), answer(3)], []))
+            self.assert_names(came, ["SELECT 1", "SELECT 2", "SELECT 3"])
+
 
 class Whole(unittest.TestCase):
     """Nothing is told where nothing lacks."""

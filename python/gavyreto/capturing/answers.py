@@ -86,23 +86,25 @@ class Answers:
         self._lost.lacking += lacking
         self._before = None
 
-    def take(self, piece: Piece) -> None:
-        """Takes the next bytes."""
-        self._accounts.received += len(piece.data)
+    def take(self, piece: Piece, waits: bool = False) -> int:
+        """Takes the next bytes, but none behind an answer that ends among them if it is waited for what the client sent. Returns how many."""
         data, place = piece.data, piece.place
-        while data:
+        while data and not (waits and place > piece.place and self.is_between()):
             if self.is_over:
                 self._accounts.told += len(data)
                 self._over_bytes += len(data)
-                break
-            if self._lost:
+                used = len(data)
+            elif self._lost:
                 used = self._find(piece, data, place)
             elif self._answer:
                 used = self._go_on(data, piece)
             else:
                 used = self._begin(data, place, piece)
             data, place = data[used:], place + used
-        self._before = piece
+        taken = place - piece.place
+        self._accounts.received += taken
+        self._before = piece._replace(data=piece.data[:taken]) if data else piece
+        return taken
 
     # Where an answer begins.
 

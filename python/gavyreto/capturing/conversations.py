@@ -105,8 +105,7 @@ class Conversation:
         is_only_one = bool(data) and is_single(segment)
         if not stream.is_begun():
             stream.begin((sequence + is_only_one) % SPACE, True)
-            if not is_client:
-                self._answers.begin_late(time)
+            self._begin_late(is_client, time)
         acknowledged = self._acknowledged(is_client, other, segment)
         if is_client and not self._is_client_absent:
             self._is_client_seen = self._answers.is_client_known = True
@@ -130,9 +129,16 @@ class Conversation:
             elif not stream.delivered and not stream.held:
                 stream.begin_at(stream.place_of((sequence + 1) % SPACE))
             if is_client:
-                self._answers.is_client_known = True
+                self._answers.is_client_known, self._requests.is_late = True, False
             else:
                 self._answers.begin_whole()
+
+    def _begin_late(self, is_client: bool, time: int) -> None:
+        """The beginning of a side's stream isn't there."""
+        if is_client:
+            self._requests.is_late = True
+        else:
+            self._answers.begin_late(time)
 
     def _acknowledged(self, is_client: bool, other: Stream, segment: Segment) -> int:
         """The place of the byte that the sender of a segment expects."""
@@ -140,8 +146,8 @@ class Conversation:
             return 0
         if not other.is_begun():
             other.begin(segment.acknowledged, True, is_firm=True)
-            if is_client:
-                self._answers.begin_late(self._time)
+            self._begin_late(not is_client, self._time)
+            self._requests.is_late = self._requests.is_late and not segment.flags & SYN  # of a server, to that of its client
         place = other.place_of(segment.acknowledged)
         if segment.flags & SYN and place < other.start and not is_client:
             self._lacking += other.start - place  # the connection begins in the capture, and its client had sent them
@@ -177,7 +183,9 @@ class Conversation:
             self._take_answer(self._waiting.take(1)[0])
 
     def _take_answer(self, piece: Piece) -> None:
-        self._answers.take(piece)
+        taken = self._answers.take(piece, self._waits(piece))
+        if taken < len(piece.data):
+            self._waiting.put(piece._replace(place=piece.place + taken, data=piece.data[taken:]), 0)
         if self._answers.begun == self._arriving:
             self.server.settle(self._arriving)  # whoever asked for it had all before it
 

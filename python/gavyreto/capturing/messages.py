@@ -69,16 +69,22 @@ def shortened(body: bytes) -> str:
     return words if len(words) <= STATEMENT_LENGTH else words[:STATEMENT_LENGTH - 2].rstrip() + " .."
 
 
+def _is_numbered_first(head: bytes) -> bool:
+    """Whether the header of a packet may be that of a message's first one, by its number."""
+    return head[6] < 2 and not head[7]
+
+
 def _is_first(data: bytes) -> bool:
     """Whether the first packet of a message that asks for rows may begin so, or a record of TLS."""
     asks = is_header(data, (PacketType.STATEMENT, PacketType.PROCEDURE, PacketType.ATTENTION, PacketType.BULK, PacketType.TRANSACTION))
-    return asks and data[6] < 2 and not data[7] or is_record(data)
+    return asks and _is_numbered_first(data) or is_record(data)
 
 
 class Requests:
     """Takes the bytes of a client, and finds its messages."""
 
     def __init__(self) -> None:
+        self.is_late = False  #: whether what comes next may be within a message: the beginning of the stream isn't there
         self.strange = 0  #: bytes that are in no message
         self.open: Optional[Request] = None  #: the message under way
         self._acknowledged = 0  # what the server had sent, as far as the client knew at the piece before
@@ -91,7 +97,7 @@ class Requests:
         """Bytes are lacking: what comes next is of the message under way, or of one whose header lacks, up to a message after a further
         answer of the server."""
         self.strange += len(self._waiting)
-        self._waiting, self._left, self.open, self._is_lost = b"", 0, None, True
+        self._waiting, self._left, self.open, self._is_lost, self.is_late = b"", 0, None, True, False
 
     def is_between(self) -> bool:
         """Whether no message is under way."""
@@ -108,10 +114,12 @@ class Requests:
         data, place = self._waiting + piece.data, piece.place - len(self._waiting)
         self._waiting = b""
         before, self._acknowledged = self._acknowledged, piece.acknowledged
-        if self._is_lost and not (before < piece.acknowledged and _is_first(data)):
-            self.strange += len(data)
-            return found
-        self._is_lost, at = False, 0
+        if self._is_lost:
+            if before >= piece.acknowledged or not (_is_first(data) or self.is_late and is_header(data, KINDS)):
+                self.strange += len(data)
+                return found
+            self._is_lost = self.is_late = False
+        at = 0
         while at < len(data):
             if not self._left:
                 used = self._begin(data[at:at + tds.HEADER], place + at, piece, found)
@@ -128,10 +136,11 @@ class Requests:
         if is_record(head) and len(head) >= 5:
             kind = Asked.LOGIN if head[0] in ASKING_RECORDS else None
             length, size, self._is_last = int.from_bytes(head[3:5], "big"), 5, True
-        elif is_header(head, KINDS):
+        elif is_header(head, KINDS) and (not self.is_late or _is_numbered_first(head)):
             kind, length, size, self._is_last = KINDS[head[0]], tds.length_of(head) - tds.HEADER, tds.HEADER, bool(head[1] & tds.LAST)
         else:
             return 0
+        self.is_late = False
         if self.open is None and kind:
             self.open = Request(kind, piece.acknowledged, place, piece.time, words=kind.value)
             self._body.clear()
