@@ -108,10 +108,15 @@ class Table(Generic[R]):
         with contextlib.suppress(FileNotFoundError):  # of a run that was killed, or what something else has put there
             os.remove(self._path + UNFINISHED)
         with begun(self._path + UNFINISHED, TABLE) as out:
-            write(out.name, out.fileno(), self._header + b"".join(map(_line_of, self.records.values())))
-        if is_one_file(out.name, os.path.join(self._folder, os.path.basename(out.name).swapcase())):
-            check_apart(TABLE.removesuffix(TEXT), *(os.path.basename(it) for it in (*again, *self.records)))
-        os.replace(out.name, self._path)
+            try:
+                write(out.name, out.fileno(), self._header + b"".join(map(_line_of, self.records.values())))
+                if is_one_file(out.name, os.path.join(self._folder, os.path.basename(out.name).swapcase())):
+                    check_apart(TABLE.removesuffix(TEXT), *(os.path.basename(it) for it in (*again, *self.records)))
+                os.replace(out.name, self._path)
+            except BaseException:
+                with contextlib.suppress(FileNotFoundError):  # it has its name already
+                    os.remove(out.name)
+                raise
         self._there = {text: self._stamp_of(text) for text in texts}
         self._descriptor = os.open(self._path, os.O_WRONLY | os.O_APPEND | os.O_CLOEXEC)
         self._size = os.fstat(self._descriptor).st_size

@@ -19,7 +19,7 @@ from collections.abc import Callable, Generator, Iterator
 from unittest import mock
 
 from gavyreto import exporting, outcomes, program, tds
-from gavyreto.commands.common import Stopped, checked_program, folder_of_texts
+from gavyreto.commands.common import Stopped, checked_program, folder_of_texts, rename
 from tests import test_adapt
 from tests.beside import PROGRAM, ROOT, SECONDS, answered, exported, is_waiting, need, responses, running_in, served, skip, started, wait_for, wire
 
@@ -482,7 +482,57 @@ class Here(Many):
             os.remove(self.path("out", name))
         os.symlink("outcomes.csv.unfinished", self.path("out", "OUTCOMES.CSV.UNFINISHED"))
         line = "STRASSE and Straße would have one text, as this folder has no case: name another one"
-        self.assertEqual((self.many("--program", PROGRAM, "in", "out"), sorted(os.listdir(self.path("out")))[1:]), ((2, line), ["outcomes.csv.unfinished"]))
+        self.assertEqual((self.many("--program", PROGRAM, "in", "out"), os.listdir(self.path("out"))), ((2, line), ["OUTCOMES.CSV.UNFINISHED"]))
+
+    def test_a_table_that_cannot_begin(self) -> None:
+        """Nothing is left of it, nor of the folders that were made for it."""
+        self.store(1)
+        command = f"ulimit -f 0; trap '' XFSZ; exec {sys.executable} -m gavyreto many --program {PROGRAM} in new/out"
+        ran = subprocess.run(["sh", "-c", command], cwd=self.folder, capture_output=True, check=False, **started())
+        table = self.path("new", "out", "outcomes.csv.unfinished")
+        self.assertEqual((ran.returncode, ran.stderr.decode()), (5, f"{table}: File too large\n"))
+        self.assertFalse(os.path.exists(self.path("new")))
+
+    def test_a_name_that_fails_where_there_are_no_links(self) -> None:
+        """Nothing has the name of a text that couldn't get it, and a text keeps its name whatever comes right after it got that."""
+        path, target = self.path("waiting"), self.path("text")
+        own = os.replace
+
+        def interrupted(source: str, target: str) -> None:
+            own(source, target)
+            raise KeyboardInterrupt
+
+        for replace, kind, left in ((OSError(5, "no"), OSError, path), (interrupted, KeyboardInterrupt, target)):
+            with open(path, "wb") as file:
+                file.write(KINDS)
+            with mock.patch("os.link", side_effect=PermissionError(1, "no")), mock.patch("os.replace", side_effect=replace):
+                self.assertRaises(kind, rename, path, target)
+            self.assertEqual([os.path.getsize(it) for it in (path, target) if os.path.lexists(it)], [len(KINDS)])
+            self.assertTrue(os.path.exists(left))
+
+    def test_a_name_that_something_else_takes_where_there_are_no_links(self) -> None:
+        """What has taken the name of a text meanwhile stays where the text can't get it."""
+        path, target, other = self.path("waiting"), self.path("text"), self.path("other")
+        own = os.replace
+
+        def overtaken(source: str, target: str) -> None:
+            own(other, target)
+            raise OSError(5, "no")
+
+        for name, data in ((path, KINDS), (other, b"other")):
+            with open(name, "wb") as file:
+                file.write(data)
+        with mock.patch("os.link", side_effect=PermissionError(1, "no")), mock.patch("os.replace", side_effect=overtaken):
+            self.assertRaises(OSError, rename, path, target)
+        with open(target, "rb") as taken:
+            self.assertEqual((taken.read(), os.path.getsize(path)), (b"other", len(KINDS)))
+
+    def test_a_folder_that_cannot_be_kept(self) -> None:
+        """Where a file system has no locks a line says so, and no folder is left that was made; one that another command has stays."""
+        for failure, line, is_left in ((OSError(38, "no"), f"a lock of {self.path('new', 'out')}: no", False), (BlockingIOError(), "another command", True)):
+            with mock.patch("fcntl.flock", side_effect=failure), self.assertRaisesRegex(Stopped, line), folder_of_texts(self.path("new", "out")):
+                self.fail("it is kept")
+            self.assertEqual(os.path.exists(self.path("new")), is_left)
 
     def test_what_is_no_file_in_a_folder(self) -> None:
         """A link to nothing, a pipe and a folder have a line and the status 5."""

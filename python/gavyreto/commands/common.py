@@ -62,6 +62,10 @@ class Changed(Stopped):
     """What is read changed meanwhile."""
 
 
+class Taken(Stopped):
+    """Another command writes there."""
+
+
 # Lines.
 
 def say(text: str) -> None:
@@ -157,10 +161,13 @@ def folder_of_texts(path: str) -> Iterator[None]:
     os.makedirs(path, exist_ok=True)
     descriptor = os.open(path, os.O_RDONLY)
     try:
-        lock(path, descriptor)
         try:
+            with naming(f"a lock of {path}"):
+                lock(path, descriptor)
             yield
             check_name(path, descriptor, "folder")
+        except Taken:
+            raise
         except BaseException:
             with contextlib.suppress(OSError):  # it has something
                 for it in made:
@@ -182,11 +189,11 @@ def settle(descriptor: int) -> None:
 
 
 def lock(path: str, descriptor: int) -> None:
-    """Keeps a folder for this command. Raises `Stopped` if another one has it."""
+    """Keeps a folder for this command. Raises `Taken` if another one has it."""
     try:
         fcntl.flock(descriptor, fcntl.LOCK_EX | fcntl.LOCK_NB)
     except BlockingIOError:
-        raise Stopped(f"{path}: another command writes there", REFUSED) from None
+        raise Taken(f"{path}: another command writes there", REFUSED) from None
 
 
 def lock_file(path: str, descriptor: int) -> None:
@@ -219,8 +226,14 @@ def rename(path: str, target: str) -> None:
     except OSError as failure:
         if failure.errno not in WITHOUT_LINKS:
             raise
-        os.close(os.open(target, os.O_WRONLY | os.O_CREAT | os.O_EXCL))
-        os.replace(path, target)
+        with open(target, "xb") as empty:
+            try:
+                os.replace(path, target)
+            except BaseException:
+                with contextlib.suppress(OSError):
+                    if os.path.samestat(os.fstat(empty.fileno()), os.lstat(target)):  # else the text has its name, or something else does
+                        os.remove(target)
+                raise
 
 
 # Standard input, output and error.
