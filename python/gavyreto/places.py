@@ -44,6 +44,8 @@ class Place(NamedTuple):
         """Whether it can be opened, as far as that is known before: a descriptor or what is no regular file itself, else the file beside it."""
         if not self.path:
             return fcntl.fcntl(self.descriptor, fcntl.F_GETFL) & os.O_ACCMODE != os.O_RDONLY
+        if not os.path.isdir(os.path.dirname(self.name) or os.curdir):  # as of a name that ends with a slash, and is none of a folder
+            return False
         if os.path.lexists(self.path) and not (os.path.isfile(self.path) and os.access(self.path, os.W_OK)):
             return not os.path.isdir(self.path) and os.access(self.path, os.W_OK)
         try:

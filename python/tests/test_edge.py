@@ -299,6 +299,14 @@ class Outputs(Live):
         with self.assertRaisesRegex(ValueError, "the system's authorities would be trusted"):
             gavyreto.connect("localhost", user="u", certificates="")
 
+    def test_names_of_folders_that_are_none(self) -> None:
+        """What has such a name without its slash stays, and nothing is sent."""
+        for name in ("rows/", "rows/.", "rows/../rows", "none/"):
+            for command in ('$QUERY -S 127.0.0.1,$PORT -U reader --program "$PROGRAM" --certificates "$CERTIFICATE" "SELECT 1"', f"{sys.executable} -m gavyreto adapt orders.tds"):
+                came = self.beside(("--record", "sent"), f"echo before > rows; exec {command} -o {name}")
+                self.assert_ends(came, 5, b"", f"{name}: can't be written")
+                self.assertEqual((self.text("rows"), [os.path.exists(self.path(it)) for it in ("none", "sent")]), (b"before\n", [False, False]))
+
     def test_names_that_get_too_long(self) -> None:
         """Of ten outputs the last has a name that is too long until its text is whole: nothing is sent."""
         came = ask_port(1, "-o", "n" * 246 + "{}", *["SELECT 1"] * 10, cwd=self.folder)
