@@ -9,6 +9,7 @@ use Rattle.tds_packet.specs.declared.fault.Stop.{Stop}
 use Rattle.tds_packet.specs.declared.payload.Payload.{Payload}
 use Rattle.tds_packet.specs.contracts.payload.Payload.{the_row}
 use Rattle.tds_packet.specs.Coming.{coming_of}
+use Rattle.tds_packet.specs.Reads.{IsOfPayload}
 use Rattle.tds_packet.specs.PayloadView.{Ends, IsBetween, IsNotOver, IsOver, PayloadView, Takes, began_at, begun}
 
 -- the bytes of its packet that are not handed out
@@ -48,11 +49,12 @@ pub record IsGoing {R : Type 0} (p : Payload R) : Type 0 where
   pub sound : IsSound p
   pub going : p.stopped ≡ None
 
--- A call left it sound, on the same reader and area, and going if it returned no error.
+-- A call left it sound, on the same reader and area, and going if it returned no error; if it returned a stop of the payload's own, at that stop.
 pub record LeavesPayload {R U : Type 0} (old new : Payload R) (result : Result U Stop) : Type 0 where
   pub sound : IsSound new
   pub same : IsOnSame old new
   pub going : OnOk result (new.stopped ≡ None)
+  pub stopped : IfErr result (λ stop. IsOfPayload stop.fault → new.stopped ≡ Some stop)
 
 -- What a call of the payload itself returns: it is left as above; if it returned a stop, it is at that stop; and one that had stopped returns its
 -- stop again, with nothing changed.

@@ -6,7 +6,7 @@ use Rattle.tds_packet.specs.Devices.{Device}
 use Rattle.tds_packet.specs.Filling.{FallsShort, FillsSlice, IsAnswered, Rises, Stays}
 use Rattle.tds_packet.specs.declared.counted.Short.TheVariants.{Ended, Failed}
 use Rattle.tds_packet.specs.declared.fault.Fault.{Fault}
-use Rattle.tds_packet.specs.declared.fault.Fault.TheVariants.{ReadFailed, InputEnded, WrongPacketType, BadPacketLength, ResponseTooLong}
+use Rattle.tds_packet.specs.declared.fault.Fault.TheVariants.{MessageEnded, ReadFailed, InputEnded, WrongPacketType, BadPacketLength, ResponseTooLong}
 use Rattle.tds_packet.specs.declared.packet.Header.{Header}
 use Rattle.tds_packet.specs.Packets.{header_length, header_fault, is_last_status}
 use Rattle.tds_packet.specs.Coming.{WholePacket, NoPacket, front_packet}
@@ -71,3 +71,8 @@ IsOfPackets (WrongPacketType kind) = ⊤
 IsOfPackets (BadPacketLength n) = ⊤
 IsOfPackets ResponseTooLong = ⊤
 IsOfPackets fault = ⊥
+
+-- A fault that a payload itself stops with: of packets, or that the message ended.
+abbrev pub IsOfPayload : Fault → Type 0
+IsOfPayload MessageEnded = ⊤
+IsOfPayload fault = IsOfPackets fault

@@ -1,9 +1,10 @@
 // A long value that passes through in pieces, by a joiner (MS-TDS, Data Stream Types).
-ghost use Rattle.std.specs.Prelude.{◌≡◌, ◌<◌, ◌≤◌, ◌+◌, ◌^◌, ◌++◌, ℕ, List, IfOk, Ok, [], false, None, take};
+ghost use Rattle.std.specs.Prelude.{◌≡◌, ◌<◌, ◌≤◌, ◌+◌, ◌^◌, ◌++◌, ℕ, List, IfErr, IfOk, Ok, [], false, None, take};
 ghost use Rattle.tds_text.specs.Conversion.{BeginsData, Conversion, Suits, closing, conversion_rest};
 ghost use Rattle.tds_text.specs.Quoting.{after_comma, end_after};
 ghost use Rattle.tds_csv.specs.Sinks.{IsReady, IsWriting, LeavesSink, PutsPiece};
 ghost use Rattle.tds_packet.specs.Payloads.{IsSound, LeavesPayload};
+ghost use Rattle.tds_packet.specs.Reads.{IsOfPayload};
 ghost use Rattle.tds_rows.specs.Blames.{Blames, failures_of};
 ghost use Rattle.tds_rows.specs.LongCells.{DataTaken, EndPut, PieceTaken, good_of, join_stop, opening};
 ghost use Rattle.tds_rows.specs.LongReading.{AwaitsValue, BlamesDevices, ChunksTaken, IsJoining, IsOnSameValue, LeavesValue, ValuePut};
@@ -144,6 +145,7 @@ impl<'r, 'p, 'j, 'w, 's, J: Joiner, R: Read, W: Write> LongValue<'r, 'p, 'j, 'w,
         ensures same { IsOnSameValue self.old self.new }
         ensures payload { self.new.payload.now ≡ self.old.payload.now }
         ensures sink { LeavesSink self.old.sink.now self.new.sink.now result }
+        ensures own { IfErr result (λ stop. ¬ IsOfPayload stop.fault) }
         ensures blames { BlamesDevices self.old self.new result }
         ensures end { (c : Conversion) (content : List ℕ) → Suits J.fit J.begins J.rest J.text J.UNIT J.QUOTED c →
             J.withheld self.old.joiner.now ≡ conversion_rest c content → BeginsData c content →
