@@ -1,10 +1,11 @@
 -- The reading of rows as the contracts of its steps see it.
-use Rattle.std.specs.Prelude.{⊤, ◌≡◌, ◌==◌, ◌+◌, ◌<◌, ◌≤◌, ℕ, Bool, true, false, List, [], length, Option, Result, MatchResult, is_ok}
+use Rattle.std.specs.Prelude.{⊤, ◌≡◌, ◌==◌, ◌+◌, ◌<◌, ◌≤◌, ℕ, Bool, true, false, List, [], length, max, Option, None, Result, MatchResult, is_ok}
 use Rattle.tds_values.specs.declared.kind.Kind.{Kind}
 use Rattle.tds_packet.specs.declared.fault.Stop.{Stop}
 use Rattle.tds_packet.specs.declared.payload.Payload.{Payload}
 use Rattle.tds_packet.specs.Payloads.{IsGoing, IsSound, LeavesPayload, buffered, seen}
 use Rattle.tds_packet.specs.PayloadView.{IsBetween, Takes}
+use Rattle.tds_packet.specs.Reads.{KeepsRoom}
 use Rattle.tds_text.specs.Quoting.{in_line, null_field}
 use Rattle.tds_csv.specs.declared.sink.Sink.{Sink}
 use Rattle.tds_csv.specs.Sinks.{IsReady, IsWriting, LeavesSink, PutsPiece}
@@ -26,6 +27,10 @@ pub record IsReadyForRow {R W : Type 0} (payload : Payload R) (sink : Sink W) (s
   pub sound : IsSound payload
   pub ready : IsReady sink
   pub room : 18 ≤ small.room
+
+-- The payload or the sink had stopped.
+abbrev pub HadStopped : {R W : Type 0} → Payload R → Sink W → Type 0
+HadStopped p s = p.stopped ≡ None → s.failed ≡ true
 
 -- Rows can be read, or a row is being read: payload and sink go on, and the small area has room for a scalar cell.
 pub record AwaitsRows {R W : Type 0} (p : Payload R) (s : Sink W) (small : Space) : Type 0 where
@@ -73,6 +78,11 @@ pub record AwaitsBitmap (bitmap : Space) : Type 0 where
   pub empty : bitmap.bytes ≡ []
   pub room : 8192 ≤ bitmap.room
   pub peak : bitmap.peak ≤ bitmap.room
+
+-- The area of a bitmap has the room that it had and its peak within it, and held no more than before or than the bitmap of so many columns.
+pub record LeavesBitmap (before after : Space) (columns : ℕ) : Type 0 where
+  pub keeps : KeepsRoom before after
+  pub bound : after.peak ≤ max before.peak (bitmap_length columns)
 
 -- The bits of a row are these: those of a bitmap of these bytes, or none of a ROW.
 abbrev pub MarkedBy : RowToken → List ℕ → Nulls → Type 0

@@ -4,8 +4,7 @@ ghost use Rattle.tds_cells.specs.Rows.{BeginNoRow, NbcRow, PlainRow, RowToken, t
 ghost use Rattle.tds_columns.specs.Description.{Column};
 ghost use Rattle.tds_meter.specs.Space.{Space, empty};
 ghost use Rattle.tds_packet.specs.Payloads.{IsGoing, LeavesPayload, buffered, seen};
-ghost use Rattle.tds_packet.specs.Reads.{KeepsRoom};
-ghost use Rattle.tds_rows.specs.RowReading.{AwaitsBitmap, AwaitsRows, BitmapRead, IsAtCell, LeavesRows, MarkedBy, NextRead};
+ghost use Rattle.tds_rows.specs.RowReading.{AwaitsBitmap, AwaitsRows, BitmapRead, IsAtCell, LeavesBitmap, LeavesRows, MarkedBy, NextRead};
 ghost use Rattle.tds_rows.specs.RunPuts.{PutsRun};
 ghost use Rattle.tds_cells.specs.MarkedRows.{WritesWholeRows};
 ghost use Rattle.tds_cells.specs.RowFormats.{Knows, KnowsSome};
@@ -41,14 +40,14 @@ pub(crate) trait Marks: Sized {
     /// Takes the last row's bitmap away.
     fn empty(&mut self)
         ensures empty { (space self.new).bytes ≡ [] }
-        ensures room { KeepsRoom (space self.old) (space self.new) };
+        ensures room { LeavesBitmap (space self.old) (space self.new) 0 };
 
     /// Reads the bitmap of a row of so many columns.
     fn begin<R: Read>(&mut self, payload: &mut Payload<'_, R>, columns: u16) -> Result<(), Stop>
         requires going { IsGoing payload.old }
         requires awaits { AwaitsBitmap (space self.old) }
         ensures payload { LeavesPayload payload.old payload.new result }
-        ensures room { KeepsRoom (space self.old) (space self.new) }
+        ensures room { LeavesBitmap (space self.old) (space self.new) columns }
         ensures bitmap { BitmapRead R.remaining token payload.old payload.new (space self.new).bytes columns result };
 
     /// Which columns are NULL by a bit.

@@ -1,10 +1,9 @@
 // The calls that read rows, one or several after one another (MS-TDS, ROW and NBCROW).
-ghost use Rattle.std.specs.Prelude.{◌≡◌, ◌⊎◌, ◌≤◌, ◌++◌, ℕ, List, None, Some, false, true, IfOk, MatchOption};
+ghost use Rattle.std.specs.Prelude.{◌≡◌, ◌⊎◌, ◌≤◌, ◌++◌, ℕ, List, length, None, Some, false, true, IfOk, MatchOption};
 ghost use Rattle.tds_columns.specs.View.{columns_of};
-ghost use Rattle.tds_packet.specs.Reads.{KeepsRoom};
 ghost use Rattle.tds_csv.specs.Sinks.{held, stop_of};
 ghost use Rattle.tds_cells.specs.Cells.{Cell};
-ghost use Rattle.tds_rows.specs.RowReading.{AwaitsRows, EndsRows, IsReadyForRow, LeavesLent};
+ghost use Rattle.tds_rows.specs.RowReading.{AwaitsRows, EndsRows, HadStopped, IsReadyForRow, LeavesBitmap, LeavesLent};
 ghost use Rattle.tds_rows.specs.RowSteps.{RowPut, RowsRead, StopsAgain};
 ghost use Rattle.tds_cells.specs.Rows.{NbcRow, PlainRow, SpellsRow, row_start};
 ghost use Rattle.tds_cells.specs.RowFormats.{Learns};
@@ -59,6 +58,7 @@ pub fn row<R: Read, W: Write>(
         SpellsRow PlainRow charset (columns_of columns.entry.bytes.now) cells bytes →
         SucceedsOn R.remaining payload.old payload.new sink.old sink.new result (bytes ++ more) }
     ensures again { StopsAgain W.contents payload.old payload.new sink.old sink.new result }
+    ensures spared { HadStopped payload.old sink.old → small.new ≡ small.old }
 {
     if let Some(stop) = earlier_stop(payload, sink) {
         return Err(stop);
@@ -88,7 +88,8 @@ fn rows_in<'a, M: Marks, R: Read, W: Write>(
     requires learnt { Learns (columns_of columns.bytes.now) charset formats.now learnt }
     requires rows { AwaitsRows payload.old sink.old small.old × (8192 ≤ (M.space marks.old).room) }
     ensures leaves { LeavesLent payload.old payload.new sink.old sink.new small.old small.new result }
-    ensures room { KeepsRoom (M.space marks.old) (M.space marks.new) }
+    ensures room { LeavesBitmap (M.space marks.old) (M.space marks.new)
+        (length (columns_of columns.entry.bytes.now)) }
     ensures ends { IfOk result (λ count. EndsRows M.token payload.old payload.new count) }
     ensures rows { RowsRead R.remaining W.contents M.token charset (columns_of columns.entry.bytes.now)
         payload.old payload.new sink.old sink.new result }
@@ -118,7 +119,8 @@ fn rows_by<const N: usize, M: Marks, R: Read, W: Write>(
     requires few { N ≤ 1024 }
     requires rows { AwaitsRows payload.old sink.old small.old × (8192 ≤ (M.space marks.old).room) }
     ensures leaves { LeavesLent payload.old payload.new sink.old sink.new small.old small.new result }
-    ensures room { KeepsRoom (M.space marks.old) (M.space marks.new) }
+    ensures room { LeavesBitmap (M.space marks.old) (M.space marks.new)
+        (length (columns_of columns.entry.bytes.now)) }
     ensures ends { IfOk result (λ count. EndsRows M.token payload.old payload.new count) }
     ensures rows { RowsRead R.remaining W.contents M.token charset (columns_of columns.entry.bytes.now)
         payload.old payload.new sink.old sink.new result }
@@ -142,7 +144,8 @@ fn read_marked<M: Marks, R: Read, W: Write>(
 ) -> Result<u64, Stop>
     requires rows { AwaitsRows payload.old sink.old small.old × (8192 ≤ (M.space marks.old).room) }
     ensures leaves { LeavesLent payload.old payload.new sink.old sink.new small.old small.new result }
-    ensures room { KeepsRoom (M.space marks.old) (M.space marks.new) }
+    ensures room { LeavesBitmap (M.space marks.old) (M.space marks.new)
+        (length (columns_of columns.entry.bytes.now)) }
     ensures ends { IfOk result (λ count. EndsRows M.token payload.old payload.new count) }
     ensures rows { RowsRead R.remaining W.contents M.token charset (columns_of columns.entry.bytes.now)
         payload.old payload.new sink.old sink.new result }
@@ -202,7 +205,7 @@ pub fn nbc_row<R: Read, W: Write>(
     requires ready { IsReadyForRow payload.old sink.old small.old }
     requires fits { 8192 ≤ bitmap.old.room }
     ensures leaves { LeavesLent payload.old payload.new sink.old sink.new small.old small.new result }
-    ensures bitmap { KeepsRoom bitmap.old bitmap.new }
+    ensures bitmap { LeavesBitmap bitmap.old bitmap.new (length (columns_of columns.entry.bytes.now)) }
     ensures row { payload.old.stopped ≡ None → sink.old.failed ≡ false →
         RowPut R.remaining W.contents charset (row_start NbcRow charset (columns_of columns.entry.bytes.now))
         payload.old payload.new sink.old sink.new result }
@@ -211,6 +214,7 @@ pub fn nbc_row<R: Read, W: Write>(
         SpellsRow NbcRow charset (columns_of columns.entry.bytes.now) cells bytes →
         SucceedsOn R.remaining payload.old payload.new sink.old sink.new result (bytes ++ more) }
     ensures again { StopsAgain W.contents payload.old payload.new sink.old sink.new result }
+    ensures spared { HadStopped payload.old sink.old → small.new ≡ small.old }
 {
     bitmap.clear();
     if let Some(stop) = earlier_stop(payload, sink) {
@@ -243,7 +247,7 @@ pub fn read_nbc_rows<R: Read, W: Write>(
 ) -> Result<u64, Stop>
     requires rows { AwaitsRows payload.old sink.old small.old × (8192 ≤ bitmap.old.room) }
     ensures leaves { LeavesLent payload.old payload.new sink.old sink.new small.old small.new result }
-    ensures bitmap { KeepsRoom bitmap.old bitmap.new }
+    ensures bitmap { LeavesBitmap bitmap.old bitmap.new (length (columns_of columns.entry.bytes.now)) }
     ensures ends { IfOk result (λ count. EndsRows NbcRow payload.old payload.new count) }
     ensures rows { RowsRead R.remaining W.contents NbcRow charset (columns_of columns.entry.bytes.now)
         payload.old payload.new sink.old sink.new result }

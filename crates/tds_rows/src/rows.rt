@@ -3,11 +3,10 @@ ghost use Rattle.std.specs.Prelude.{◌≡◌, ◌+◌, ◌-◌, ◌<◌, ◌≤
 ghost use Rattle.tds_packet.specs.PayloadView.{Takes};
 ghost use Rattle.tds_text.specs.Fields.{conversion_of};
 ghost use Rattle.tds_cells.specs.Cells.{long_start};
-ghost use Rattle.tds_rows.specs.RowReading.{AwaitsBitmap, AwaitsRows, CellRead, EndsRows, IsAtCell, LeavesRows};
+ghost use Rattle.tds_rows.specs.RowReading.{AwaitsBitmap, AwaitsRows, CellRead, EndsRows, IsAtCell, LeavesBitmap, LeavesRows};
 ghost use Rattle.tds_cells.specs.Rows.{BeginNoRow, PlainRow, RowToken, row_start, token_byte};
 ghost use Rattle.tds_columns.specs.Description.{Column};
 ghost use Rattle.tds_packet.specs.Payloads.{buffered, seen};
-ghost use Rattle.tds_packet.specs.Reads.{KeepsRoom};
 ghost use Rattle.tds_rows.specs.RowSteps.{RowPut, RowsRead, SomeRead};
 ghost use Rattle.tds_rows.specs.RunPuts.{PutsRun};
 ghost use Rattle.tds_cells.specs.CellTexts.{IsLeftFor};
@@ -246,7 +245,7 @@ impl<'r, 't, 'p, 's, 'c, R: Read, W: Write> Rows<'r, 't, 'p, 's, 'c, R, W> {
             × KnowsSome self.old.row_format.now }
         requires awaits { AwaitsBitmap (M.space marks.old) }
         ensures leaves { LeavesRows self.old self.new result }
-        ensures room { KeepsRoom (M.space marks.old) (M.space marks.new) }
+        ensures room { LeavesBitmap (M.space marks.old) (M.space marks.new) self.old.row_format.now.count }
         ensures few { IfOk result (λ count. self.old.payload.now.place + count ≤ self.new.payload.now.place + 1) }
         ensures rows { (columns : List Column) → Knows self.old.row_format.now columns →
             SomeRead R.remaining W.contents M.token self.old.row_format.now.charset columns
@@ -280,7 +279,7 @@ impl<'r, 't, 'p, 's, 'c, R: Read, W: Write> Rows<'r, 't, 'p, 's, 'c, R, W> {
             × KnowsSome self.old.row_format.now }
         requires room { 8192 ≤ (M.space marks.old).room }
         ensures leaves { LeavesRows self.old self.new result }
-        ensures room { KeepsRoom (M.space marks.old) (M.space marks.new) }
+        ensures room { LeavesBitmap (M.space marks.old) (M.space marks.new) self.old.row_format.now.count }
         ensures ends { IfOk result (λ count. EndsRows M.token self.old.payload.now self.new.payload.now count) }
         ensures rows { (columns : List Column) → Knows self.old.row_format.now columns →
             RowsRead R.remaining W.contents M.token self.old.row_format.now.charset columns

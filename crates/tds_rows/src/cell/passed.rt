@@ -159,7 +159,8 @@ pub fn pass_over<R: Read>(
         SpellsCell kind.now (shape return_charset kind.now) value bytes →
         Brings (seen R.remaining payload.old) (bytes ++ more) →
         ¬ Rose payload.old.from.now.failures payload.new.from.now.failures → is_ok result ≡ true }
-    ensures again { IfSome payload.old.stopped (λ stop. (result ≡ Err stop) × (payload.new ≡ payload.old)) }
+    ensures again { IfSome payload.old.stopped (λ stop. (result ≡ Err stop)
+        × (payload.new ≡ payload.old) × (small.new ≡ small.old)) }
 {
     if let Some(stop) = payload.stopped() {
         return Err(stop);

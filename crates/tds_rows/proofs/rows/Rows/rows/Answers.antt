@@ -4,7 +4,8 @@ use N.{◌∙◌, sym}
 use N.NextSteps.{come_first, come_last, come_next, come_rows, come_stops, come_taken}
 
 pub loop-ended-init : goal.loop-ended-init
-loop-ended-init g c = record { knows = c.requires.in_row.1; room = N.refl; few = omega N.arith; reads = come_first _ _ c.requires.in_row.0 }
+loop-ended-init g c =
+    record { knows = c.requires.in_row.1; room = N.refl; bound = omega N.arith; few = omega N.arith; reads = come_first _ _ c.requires.in_row.0 }
 
 pub returns-then-whole-clause-rows : goal.returns-then-whole-clause-rows
 returns-then-whole-clause-rows g c = λ columns knows.
@@ -38,7 +39,8 @@ loop-ended-preserved g c =
     let known = rw (sym whole.stays.same.3) at l.knows in
     record {
       knows = rw (sym (kept.same.3 ∙ done.leaves.same.3)) at known;
-      room = done.room.room ∙ c.empty.ensures.room.room ∙ l.room;
+      room = done.room.keeps.room ∙ c.empty.ensures.room.keeps.room ∙ l.room;
+      bound = grind (N.arith, done.room.bound, c.empty.ensures.room.bound, l.bound);
       few = omega (N.arith, whole.few, done.few, taken.1);
       reads = come_next _ _ g.M.Marks.token come done.leaves done.rows known.2 kept c.take_token.ensures.sink taken;
     }
