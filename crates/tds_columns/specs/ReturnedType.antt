@@ -1,5 +1,5 @@
 -- The type of the value that a procedure returns (MS-TDS, RETURNVALUE): eight bytes that end with the type byte, and what follows it.
-use Rattle.std.specs.Prelude.{◌≡◌, ◌==◌, ℕ, ◌+◌, ◌≤◌, List, [], ◌∷◌, length, max, Option, Some, None, Result, OnErr, OnOk, if◌then◌else◌, slice_index, take}
+use Rattle.std.specs.Prelude.{◌≡◌, ◌==◌, ℕ, ◌+◌, ◌≤◌, List, [], ◌∷◌, ◌++◌, length, max, Option, Some, None, Result, OnErr, if◌then◌else◌, slice_index}
 use Rattle.std.specs.Prelude.{unwrap_or, is_some}
 use Rattle.tds_values.specs.declared.kind.Kind.{Kind}
 use Rattle.tds_values.specs.TypeInfo.{IsTypeInfo, rest_length, kind_of}
@@ -71,23 +71,23 @@ pub record HoldsHead {R : Type 0} (payload : Payload R) (area : Space) : Type 0 
   pub eight : length area.bytes ≡ 8
   pub room : 15 ≤ area.room
 
--- Reading such a type left that area its room, raised its peak to fifteen bytes at most, and left the eight if it stopped.
+-- Reading such a type left that area its room, raised its peak to fifteen bytes at most, and left its bytes if it stopped.
 pub record LeavesHead {U : Type 0} (before after : Space) (result : Result U Stop) : Type 0 where
   pub room : after.room ≡ before.room
   pub bound : after.peak ≤ max before.peak 15
   pub kept : OnErr result (after.bytes ≡ before.bytes)
-  pub grown : OnOk result (take (length before.bytes) after.bytes ≡ before.bytes)
 
--- What follows a type byte was read: together they describe the kind.
-pub record ReadsType (byte : ℕ) (old new : PayloadView) (place place' : ℕ) (kind : Kind) : Type 0 where
+-- What follows the type byte that ends these eight bytes was read, and stands after them: together they describe the kind.
+pub record ReadsType (eight held : List ℕ) (old new : PayloadView) (place place' : ℕ) (kind : Kind) : Type 0 where
   pub rest : List ℕ
-  pub info : IsTypeInfo kind (byte ∷ rest)
+  pub stands : held ≡ eight ++ rest
+  pub info : IsTypeInfo kind (slice_index eight 7 ∷ rest)
   pub takes : Takes old new rest (length rest)
   pub place_is : place' ≡ place + length rest
 
--- The same, over a payload before and after it.
-abbrev pub ReturnTypeRead : {R : Type 0} → (R → Option (List ℕ)) → (old new : Payload R) → (byte : ℕ) → Kind → Type 0
-ReturnTypeRead remaining old new byte kind = ReadsType byte (seen remaining old) (seen remaining new) old.place new.place kind
+-- The same, over a payload and an area before and after it.
+abbrev pub ReturnTypeRead : {R : Type 0} → (R → Option (List ℕ)) → (old new : Payload R) → (before after : Space) → Kind → Type 0
+ReturnTypeRead remaining old new before after kind = ReadsType before.bytes after.bytes (seen remaining old) (seen remaining new) old.place new.place kind
 
 -- The reading of such a type stopped.
 pub record StopsType (old new : PayloadView) (place : ℕ) (stop : Stop) : Type 0 where

@@ -1,5 +1,5 @@
 // The type of the value that a procedure returns (MS-TDS, RETURNVALUE).
-ghost use Rattle.std.specs.Prelude.{◌-◌, slice_index, MatchResult, IfOk};
+ghost use Rattle.std.specs.Prelude.{◌-◌, MatchResult, IfOk};
 ghost use Rattle.tds_columns.specs.ReturnedType.{HoldsHead, KnownType, LeavesHead, StopsType, TypeHead, ReturnTypeRead, WereTaken, returned_type};
 ghost use Rattle.tds_packet.specs.Payloads.{IsGoing, LeavesPayload, seen};
 ghost use Rattle.tds_packet.specs.Reading.{Reads};
@@ -34,7 +34,7 @@ pub fn read_type_info<R: Read>(payload: &mut Payload<R>, small: &mut Area) -> Re
     ensures payload { LeavesPayload payload.old payload.new result }
     ensures area { LeavesHead small.old small.new result }
     ensures kind { IfOk result (λ kind.
-        ReturnTypeRead R.remaining payload.old payload.new (slice_index small.old.bytes 7) kind) }
+        ReturnTypeRead R.remaining payload.old payload.new small.old small.new kind) }
     ensures gives { (before : PayloadView) → WereTaken before (seen R.remaining payload.old) small.old.bytes →
         MatchResult result
         (λ kind. Reads returned_type TypeHead before (seen R.remaining payload.new) (KnownType kind))

@@ -73,17 +73,17 @@ type_agrees : {name : List ℕ} (p : N.TypePart) → 0 < N.returned_type.size p 
 type_agrees = grind (arith, byte_read)
 
 -- whatever the answer is
-pub type_taken : (r : N.Result N.Kind Stop) (name head : List ℕ) (a b c : PayloadView) (place : ℕ) {middle : ℕ} (place' : ℕ) → length head ≡ 8
+pub type_taken : (r : N.Result N.Kind Stop) (name head held : List ℕ) (a b c : PayloadView) (place : ℕ) {middle : ℕ} (place' : ℕ) → length head ≡ 8
     → Takes a b head 8
-    → middle ≡ place + 8 → N.IfOk r (λ kind. N.ReadsType (N.slice_index head 7) b c middle place' kind)
+    → middle ≡ place + 8 → N.IfOk r (λ kind. N.ReadsType head held b c middle place' kind)
     → N.MatchResult r (λ kind. N.Reads N.returned_type N.TypeHead a c (N.KnownType kind)) (λ stop. N.StopsType a c (middle - 8) stop)
     → N.MatchResult r (λ kind. ReadsReturn (N.ReturnHead name) (N.before_value name kind) a c place place')
     (λ stop. N.StopsReturn (N.ReturnHead name) a c place stop)
-type_taken (Ok kind) _ _ a b c _ _ eight takes at x y =
+type_taken (Ok kind) _ _ _ a b c _ _ eight takes at x y =
     let known = N.rest_length_of _ _ _ x.info in
     return_reads_after (return_read _ (omega arith) refl (rw known refl) (rw known refl) eight takes at)
     (record { reads = record { bytes = x.rest; spelt = info_is_read _ _ _ known x.info; takes = x.takes }; place_is = x.place_is })
-type_taken (Err stop) name _ a b c _ _ eight takes at x y =
+type_taken (Err stop) name _ _ a b c _ _ eight takes at x y =
     let z = N.subst (λ n. N.StopsType a c n stop) (omega arith) y in
     record { at = after_name name z.at; stops = stop_inside (type_agrees) z.stops }
 

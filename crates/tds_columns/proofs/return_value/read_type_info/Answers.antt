@@ -22,6 +22,7 @@ returns-in-Some-clause-kind g c =
     let t = c.in_ok-read_into.ensures.gives in
     record {
       rest = t.element;
+      stands = N.ap (λ (area : N.Space). area.bytes) t.stands;
       info = rw (← (element_at t c.bytes-2.ensures.value (sym c.requires.head.eight)), ← c.bytes.ensures.value) (sym c.kind_of.ensures ∙ c.in-Some.is);
       takes = rw t.whole t.takes;
       place_is = rw t.whole c.in_ok-read_into.ensures.place;

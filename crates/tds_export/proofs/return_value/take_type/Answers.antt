@@ -10,5 +10,5 @@ pub returns-clause-gives : goal.returns-clause-gives
 returns-clause-gives g c = λ _. let t = c.in_ok-read_into.ensures.gives in
     let is : c.read_into.new.area.bytes ≡ t.element = rw (t.stands, c.clear.ensures.value) refl in
     let takes = rw (← is) at t.takes in
-    N.Bodies.type_taken _ _ _ _ _ _ _ _ (N.ap N.length is ∙ t.whole) takes c.in_ok-read_into.ensures.place
+    N.Bodies.type_taken _ _ _ _ _ _ _ _ _ (N.ap N.length is ∙ t.whole) takes c.in_ok-read_into.ensures.place
     c.read_type_info.ensures.kind (c.read_type_info.ensures.gives (seen g.R.Read.remaining c.args.payload.now) (takes, t.between))
