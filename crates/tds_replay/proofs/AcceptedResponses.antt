@@ -14,7 +14,7 @@ told_over : (xs : List ℕ) (a : Option (List ℕ)) → a ≡ Some xs → N.Tell
 told_over = grind arith
 
 -- a count that stayed didn't rise
-stayed : (a b c : ℕ) → b ≡ a → N.IsAnswered a c → N.Rose b c → ⊥
+stayed : (a b c : ℕ) (moved : List ℕ) → b ≡ a → N.IsAnswered a c → N.Rises b c moved → ⊥
 stayed = grind arith
 
 -- ---- one response
@@ -52,7 +52,7 @@ counts_stay = grind arith
 abbrev SaysAll : {M : Type 0} → (M → Option (List ℕ)) → Counted M → Counted M → List ℕ → Type 0
 SaysAll contents old new text = N.WritesText contents old new text ⊎ ((n : ℕ) → n < N.last_count → n ≤ old.failures → n < new.failures)
 
-passed : (n a b : ℕ) → n < N.last_count → n ≤ a → N.Rose a b → n < b
+passed : (n a b : ℕ) (moved : List ℕ) → n < N.last_count → n ≤ a → N.Rises a b moved → n < b
 passed = grind arith
 
 module _ {M : Type 0} (contents : M → Option (List ℕ)) (a b c : Counted M) (s t : List ℕ) where
@@ -60,7 +60,7 @@ module _ {M : Type 0} (contents : M → Option (List ℕ)) (a b c : Counted M) (
   says_both (inl x) (inl y) = grind (arith, N.Appends-trans)
   says_both (inl x) (inr y) = inr (λ n least within. y n least (omega arith))
   says_both (inr x) (inl y) = grind (arith, passed)
-  says_both (inr x) (inr y) = inr (λ n least within. let more = passed n a.failures b.failures least within x in y n least (omega arith))
+  says_both (inr x) (inr y) = inr (λ n least within. let more = passed n a.failures b.failures _ least within x.counted in y n least (omega arith))
 
   -- the last text was written, or a write failed
   says_last : SaysAll contents a b s → N.SaysOrFails contents b c t → N.IsAnswered a.failures c.failures
