@@ -4,7 +4,7 @@
 
 ghost use Rattle.std.specs.Prelude.{◌≡◌, IfOk, drop};
 ghost use Rattle.std.specs.Vec.Iter.{into_iter_items};
-ghost use Rattle.replay.specs.Runs.{Ends, Reads, RunsFrom, RunsJob};
+ghost use Rattle.replay.specs.Runs.{Ends, Reads, RunsFrom, RunsJob, ahead_of as read_ahead};
 ghost use Rattle.tds_arguments.specs.Jobs.{IsInRange};
 
 use std::alloc::AllocError;
@@ -57,7 +57,9 @@ fn read_job(rt: &HostRuntime) -> Result<Job, Usage>
 }
 
 // How many bytes of standard input are read ahead at most: none if one response is read, since another program may read on from it.
-fn ahead_of(work: &Work) -> usize {
+fn ahead_of(work: &Work) -> usize
+    ensures { result ≡ read_ahead work.now }
+{
     match work {
         Work::ExportAll { .. } | Work::CheckAll { .. } => AHEAD,
         _ => 0,
@@ -73,7 +75,7 @@ fn run_from<R: Read + Drop, N: Write>(
     notes: &mut Counted<N>,
 ) -> u8
     requires { IsInRange job.now }
-    ensures { RunsFrom R.remaining N.contents job.now from notes.old notes.new result }
+    ensures { RunsFrom R.remaining N.contents job.now from ahead notes.old notes.new result }
 {
     let Ok(from) = BufReader::with_capacity(rt.alloc(), ahead, from) else {
         let _ = say_want_of_memory(notes);

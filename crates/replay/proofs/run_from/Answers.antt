@@ -4,4 +4,4 @@ use Rattle.replay.proofs.run_from.Goals as goal
 
 pub returns : goal.returns
 returns g c = inl (performs_over c.new.result c.perform_in.new.from c.new-to.result c.perform_in.new.to
-    c.in-Ok.ensures.inner c.new.ensures c.new-to.ensures c.work.ensures c.perform_in.ensures.performs)
+    c.in-Ok.ensures.inner c.in-Ok.ensures.empty c.in-Ok.ensures.capacity c.new.ensures c.new-to.ensures c.work.ensures c.perform_in.ensures.performs)
