@@ -83,7 +83,7 @@ pub trait Joiner: Sized {
 
     /// Writes what [`push`](Joiner::push) puts of a piece to the front of a slice if nothing is withheld, withholds the rest, and
     /// returns how long the text is. What follows the piece in the source may be looked at. `None` if bytes are withheld, or if
-    /// the piece has a bad one: nothing was done then.
+    /// the piece has a bad one: what is withheld stays then, and the slice may hold any text.
     fn write(&mut self, piece: &[u8], source: &[u8], to: &mut [u8]) -> Option<usize>
         requires begun { begins (withheld self.old) }
         requires source { LiesIn piece.now source.now }

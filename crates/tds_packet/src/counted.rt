@@ -108,7 +108,8 @@ impl<R: Read> Counted<R> {
 }
 
 impl<R: BufRead> Counted<R> {
-    /// Whether the input is over. No byte is taken, but the reader may read ahead. [`Failed`] if that failed.
+    /// Whether the input is over, as an empty buffer tells it: of a reader whose buffer has no room it always does. No byte is
+    /// taken, but the reader may read ahead. [`Failed`] if that failed.
     pub fn is_over(&mut self) -> Result<bool, Failed>
         ensures keeps { Keeps (R.remaining self.old.device) (R.remaining self.new.device) }
         ensures over { IfOk result (TellsInputEnd (R.remaining self.old.device)) }
