@@ -1,11 +1,10 @@
 -- Decimal digits, some at a time.
-use Rattle.tds_values.proofs.Words as N
-use Rattle.tds_values.proofs.Words.{min, ◌≡◌, ◌⊎◌, ℕ, zero, suc, ◌+◌, ◌-◌, ◌*◌, ◌/◌, ◌%◌, ◌^◌, ◌<◌, ◌≤◌, ◌++◌, refl, ap, arith, inl, inr, decimal, pow-add}
-use Rattle.tds_values.proofs.Words.{last_digits}
+use Rattle.tds_values.proofs as N
+use N.{ap, arith, decimal, inl, inr, last_digits, min, pow-add, suc, zero, ℕ, ◌%◌, ◌*◌, ◌++◌, ◌+◌, ◌-◌, ◌/◌, ◌<◌, ◌^◌, ◌≡◌, ◌≤◌, ◌⊎◌}
 
 -- what lies above the last digits doesn't change them
 pub last_digits-above : (k q n : ℕ) → last_digits k (10 ^ k * q + n) ≡ last_digits k n
-last_digits-above zero q n = refl
+last_digits-above zero q n = N.refl
 last_digits-above (suc k) q n =
     let a : (10 ^ suc k * q + n) / 10 ≡ 10 ^ k * q + n / 10 = rw (N.pow-succ' 10 k) (omega arith) in
     let b : (10 ^ suc k * q + n) % 10 ≡ n % 10 = rw (N.pow-succ' 10 k) (omega arith) in
@@ -88,7 +87,7 @@ pub decimal_above : (scale n : ℕ) → scale ≤ 7 → 100000000 ≤ n → n < 
 decimal_above scale n few many fits =
     let some = N.one-le-pow scale 10 (omega arith) in
     let all : (8 - scale) + scale ≡ 8 = omega arith in
-    let power : 10 ^ (8 - scale) * 10 ^ scale ≡ 100000000 = rw (← pow-add 10 (8 - scale) scale, all) refl in
+    let power : 10 ^ (8 - scale) * 10 ^ scale ≡ 100000000 = rw (← pow-add 10 (8 - scale) scale, all) N.refl in
     let whole : n / 10 ^ scale / 10 ^ (8 - scale) ≡ n / 100000000 = grind (arith, (N.div-div-eq-div-mul n (10 ^ scale) (10 ^ (8 - scale)))) in
     let low : 10 ^ (8 - scale) ≤ n / 10 ^ scale = N.le-div (10 ^ (8 - scale)) n (10 ^ scale) some (omega (arith, power)) in
     let parts : n % 100000000 + 10 ^ scale * (10 ^ (8 - scale) * (n / 100000000)) ≡ n =

@@ -15,3 +15,4 @@ pub mod WrittenLemmas
 pub mod ZeroLemmas
 pub mod WideDigits
 pub mod Words
+pub use Words.*

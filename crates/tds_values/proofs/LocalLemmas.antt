@@ -1,7 +1,6 @@
 -- Local times by their whole seconds.
-use Rattle.tds_values.proofs.Words as N
-use Rattle.tds_values.proofs.Words.{◌≡◌, ℕ, ◌+◌, ◌*◌, ◌/◌, ◌%◌, ◌^◌, ◌<◌, ◌++◌, ℤ, Some, ap, arith}
-use Rattle.tds_values.proofs.DigitLemmas.{last_digits-above, last_digits-mod}
+use Rattle.tds_values.proofs as N
+use N.{arith, ℕ, ℤ, ◌%◌, ◌*◌, ◌++◌, ◌+◌, ◌/◌, ◌<◌, ◌^◌, ◌≡◌}
 
 more : (p x t f : ℕ) → f < p → t < x → t * p + f < x * p
 more p x t f h less = omega (arith, N.mul-le (t + 1) p x p (omega arith) (omega arith))
@@ -22,10 +21,10 @@ local_by_seconds scale units day offset =
     )
 
 scaled_sum : (p s o t : ℕ) → s + o ≡ t → s * p + o * p ≡ t * p
-scaled_sum p s o t e = omega (arith, ap (λ k. k * p) e)
+scaled_sum p s o t e = omega (arith, N.ap (λ k. k * p) e)
 
 -- and its units are those seconds and the fraction
-pub units_of_seconds : (scale units day l : ℕ) (offset : ℤ) → N.local_seconds (units / 10 ^ scale) day offset ≡ Some l
+pub units_of_seconds : (scale units day l : ℕ) (offset : ℤ) → N.local_seconds (units / 10 ^ scale) day offset ≡ N.Some l
     → N.local_units scale units day offset ≡ l * 10 ^ scale + units % 10 ^ scale
 units_of_seconds scale units day l offset h =
     let p = 10 ^ scale in
@@ -34,12 +33,12 @@ units_of_seconds scale units day l offset h =
     grind (arith, (scaled_sum p t o l), (scaled_sum p l o t))
 
 fraction-above : (scale x f : ℕ) → N.fraction_text scale (x * 10 ^ scale + f) ≡ N.fraction_text scale f
-fraction-above scale x f = let turned : x * 10 ^ scale ≡ 10 ^ scale * x = omega arith in rw (turned, last_digits-above)
+fraction-above scale x f = let turned : x * 10 ^ scale ≡ 10 ^ scale * x = omega arith in rw (turned, N.DigitLemmas.last_digits-above)
 
 day_parts : (p l f : ℕ) → f < p → ((l * p + f) / (86400 * p) ≡ l / 86400) × ((l * p + f) % (86400 * p) ≡ l % 86400 * p + f)
 day_parts p l f small =
     let short : l % 86400 * p + f < 86400 * p = more p 86400 (l % 86400) f small (omega arith) in
-    let whole : l * p + f ≡ l / 86400 * (86400 * p) + (l % 86400 * p + f) = omega (arith, ap (λ k. k * p) (N.div-add-mod l 86400)) in
+    let whole : l * p + f ≡ l / 86400 * (86400 * p) + (l % 86400 * p + f) = omega (arith, N.ap (λ k. k * p) (N.div-add-mod l 86400)) in
     rw whole (N.div-mul-add (l / 86400) (86400 * p) (l % 86400 * p + f) short, N.mod-mul-add (l / 86400) (86400 * p) (l % 86400 * p + f) short)
 
 -- so its text is that of the seconds and the fraction
@@ -53,5 +52,5 @@ text_of_seconds scale l units =
       p.1,
       N.div-mul-add (l % 86400) (10 ^ scale) (units % 10 ^ scale) small,
       fraction-above scale (l % 86400) (units % 10 ^ scale),
-      last_digits-mod scale units,
+      N.DigitLemmas.last_digits-mod scale units,
     )

@@ -1,17 +1,14 @@
 -- Forty digits of a number, in groups of eight.
-use Rattle.tds_values.proofs.Words as N
-use Rattle.tds_values.proofs.Words.{◌≡◌, ◌⊎◌, inl, inr, ℕ, zero, suc, ◌+◌, ◌-◌, ◌*◌, ◌/◌, ◌%◌, ◌^◌, ◌<◌, ◌≤◌, List, [], ◌∷◌, ◌++◌, take, drop, length, get_or}
-use Rattle.tds_values.proofs.Words.{refl, ap, ◌∙◌, arith, Bool, ◌==◌, decimal, last_digits, min, append_assoc}
-use Rattle.tds_values.proofs.DigitLemmas.{decimal_units, last_digits-add, last_digits-mod}
-use Rattle.tds_values.proofs.WordLemmas.{end_digits, front_put}
-use Rattle.tds_values.proofs.ZeroLemmas.{HasLeadingZeros}
+use Rattle.tds_values.proofs as N
+use N.{List, ap, arith, drop, get_or, last_digits, min, take, ℕ, ◌%◌, ◌++◌, ◌+◌, ◌-◌, ◌/◌, ◌<◌, ◌==◌, ◌^◌, ◌∙◌, ◌≡◌, ◌≤◌}
+use N.ZeroLemmas.{HasLeadingZeros}
 use Rattle.std.proofs.lemmas.List.{drop-take}
 use Rattle.std.specs.Prelude.{◌&&◌, not}
 use Rattle.tds_values.specs.Numbers.{groups_of}
 use Rattle.tds_values.specs.ScalarText.{minus_if}
 
 -- m bytes put from digit s on hold the digits from there up to the fortieth
-pub digits_from : (xs new ds : List ℕ) (at s m : ℕ) → length xs ≡ at → s ≤ 40 → 40 - s ≤ m → take (at + m) new ≡ xs ++ take m (drop s ds)
+pub digits_from : (xs new ds : List ℕ) (at s m : ℕ) → N.length xs ≡ at → s ≤ 40 → 40 - s ≤ m → take (at + m) new ≡ xs ++ take m (drop s ds)
     → take (at + (40 - s)) new ≡ xs ++ drop s (take 40 ds)
 digits_from xs new ds at s m long few more e =
     let forty : s + (40 - s) ≡ 40 = omega arith in
@@ -23,7 +20,14 @@ digits_from xs new ds at s m long few more e =
 group_after : (a k n g : ℕ) {front : List ℕ} → g ≡ n / 10 ^ k % 10 ^ 8 → front ≡ last_digits a (n / 10 ^ (k + 8))
     → front ++ last_digits 8 g ≡ last_digits (a + 8) (n / 10 ^ k)
 group_after a k n g eg ef =
-    rw (last_digits-add a 8 (n / 10 ^ k), N.div-div-eq-div-mul n (10 ^ k) (10 ^ 8), ← N.pow-add 10 k 8, ef, eg, last_digits-mod 8 (n / 10 ^ k)) refl
+    rw (
+      N.DigitLemmas.last_digits-add a 8 (n / 10 ^ k),
+      N.div-div-eq-div-mul n (10 ^ k) (10 ^ 8),
+      ← N.pow-add 10 k 8,
+      ef,
+      eg,
+      N.DigitLemmas.last_digits-mod 8 (n / 10 ^ k),
+    ) N.refl
 
 -- five groups of eight digits
 pub forty : (n : ℕ) {gs front one two three four : List ℕ} → n < 2 ^ 128 → gs ≡ groups_of n → front ≡ last_digits 8 (get_or gs 0 0)
@@ -46,15 +50,15 @@ zeros_after p n z few more leading_zeros =
     grind (arith, (N.le-div (10 ^ (8 - z)) n (10 ^ p) some), (N.le-div 1 n (10 ^ p) some), (N.div_below n (10 ^ p) (10 ^ (7 - z)) some))
 
 -- a sign and the digits before the point, in front of those after it
-pub whole_joined : (negative : Bool) (n scale zeros at : ℕ) (new t : List ℕ) {xs ds : List ℕ} → ds ≡ last_digits 40 n
-    → xs ≡ t ++ minus_if (negative && not (n == 0)) → length xs ≡ at → n < 2 ^ 128 → scale ≤ 38 → HasLeadingZeros 39 n zeros
+pub whole_joined : (negative : N.Bool) (n scale zeros at : ℕ) (new t : List ℕ) {xs ds : List ℕ} → ds ≡ last_digits 40 n
+    → xs ≡ t ++ minus_if (negative && not (n == 0)) → N.length xs ≡ at → n < 2 ^ 128 → scale ≤ 38 → HasLeadingZeros 39 n zeros
     → take (at + (40 - min zeros (39 - scale))) new ≡ xs ++ drop (min zeros (39 - scale)) ds
-    → take (at + (40 - min zeros (39 - scale)) - scale) new ≡ t ++ minus_if (negative && not (n == 0)) ++ decimal (n / 10 ^ scale)
+    → take (at + (40 - min zeros (39 - scale)) - scale) new ≡ t ++ minus_if (negative && not (n == 0)) ++ N.decimal (n / 10 ^ scale)
 whole_joined negative n scale zeros at new t {xs} ed ex long fits few leading_zeros is =
     let first = min zeros (39 - scale) in
     let k = 40 - scale - first in
     let rest : 40 - (40 - first) ≡ first = omega arith in
-    let digits = rw rest at (end_digits 40 (40 - first) n (omega arith)) in
+    let digits = rw rest at (N.WordLemmas.end_digits 40 (40 - first) n (omega arith)) in
     let end : at + (40 - first) - scale ≡ at + k = omega arith in
-    let whole = decimal_units 39 scale zeros n (omega arith) (omega arith) leading_zeros.0 leading_zeros.1.0 leading_zeros.1.1 in
-    rw (end, whole, ← ex) (front_put xs new at k scale (40 - first) n long (omega arith) (rw (ed, digits) at is))
+    let whole = N.DigitLemmas.decimal_units 39 scale zeros n (omega arith) (omega arith) leading_zeros.0 leading_zeros.1.0 leading_zeros.1.1 in
+    rw (end, whole, ← ex) (N.WordLemmas.front_put xs new at k scale (40 - first) n long (omega arith) (rw (ed, digits) at is))

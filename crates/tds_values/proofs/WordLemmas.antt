@@ -1,9 +1,7 @@
 -- Digits as the bytes of one number.
-use Rattle.tds_values.proofs.Words as N
-use Rattle.tds_values.proofs.Words.{ap, drop, ◌-◌, ◌≤◌, ◌≡◌, ℕ, zero, suc, ◌+◌, ◌*◌, ◌/◌, ◌%◌, ◌^◌, ◌<◌, List, [], ◌∷◌, ◌++◌, refl, arith, take, length, All}
-use Rattle.tds_values.proofs.Words.{last_digits}
-use Rattle.tds_values.proofs.DigitLemmas.{last_digits-add}
-use Rattle.tds_values.proofs.TextLengths.{length-last_digits}
+use Rattle.tds_values.proofs as N
+use N.{List, arith, drop, last_digits, refl, suc, take, zero, ℕ, [], ◌%◌, ◌*◌, ◌++◌, ◌+◌, ◌-◌, ◌/◌, ◌<◌, ◌^◌, ◌∷◌, ◌≡◌, ◌≤◌}
+use N.TextLengths.{length-last_digits}
 
 -- the number whose bytes these are, the first the lowest
 abbrev pub word_of : List ℕ → ℕ
@@ -15,12 +13,12 @@ abbrev pub bytes_of : ℕ → ℕ → List ℕ
 bytes_of zero n = []
 bytes_of (suc k) n = n % 256 ∷ bytes_of k (n / 256)
 
-pub digits_are_bytes : (k n : ℕ) → All (λ b. b < 256) (last_digits k n)
+pub digits_are_bytes : (k n : ℕ) → N.All (λ b. b < 256) (last_digits k n)
 digits_are_bytes zero n = N.All-nil (λ b. b < 256)
 digits_are_bytes (suc k) n = N.All-push (λ b. b < 256) _ (48 + n % 10) (digits_are_bytes k (n / 10)) (omega arith)
 
 -- the low bytes of a number give back what it was made of
-bytes_of-word_of : (xs : List ℕ) → All (λ b. b < 256) xs → bytes_of (length xs) (word_of xs) ≡ xs
+bytes_of-word_of : (xs : List ℕ) → N.All (λ b. b < 256) xs → bytes_of (N.length xs) (word_of xs) ≡ xs
 bytes_of-word_of [] h = refl
 bytes_of-word_of (x ∷ xs) h = grind (arith, N.All-head, (bytes_of-word_of xs (N.All-tail (λ b. b < 256) x xs h)))
 
@@ -46,7 +44,7 @@ eighth_power zero = refl
 eighth_power (suc k) = let e : 8 * suc k ≡ 8 + 8 * k = omega arith in rw (e, N.pow-add 2 8 (8 * k), eighth_power k, N.pow-succ' 256 k)
 
 -- of the bytes after `at`, shifted past the first j, the first k
-pub shifted_put : (xs new : List ℕ) (at j k m w : ℕ) → length xs ≡ at → m ≡ j + k → take (at + m) new ≡ xs ++ N.bytes_low_first 0 m (w / 2 ^ (8 * j))
+pub shifted_put : (xs new : List ℕ) (at j k m w : ℕ) → N.length xs ≡ at → m ≡ j + k → take (at + m) new ≡ xs ++ N.bytes_low_first 0 m (w / 2 ^ (8 * j))
     → take (at + k) new ≡ xs ++ drop j (N.bytes_low_first 0 m w)
 shifted_put xs new at j k m w long em e =
     let f = rw (whole_word, eighth_power) at e in
@@ -58,7 +56,12 @@ pub end_digits : (k b n : ℕ) → b ≤ k → drop (k - b) (last_digits k n) �
 end_digits k b n few =
     let all : k ≡ (k - b) + b = omega arith in
     let d = last_digits (k - b) (n / 10 ^ b) in
-    cc (ap (λ j. last_digits j n) all, last_digits-add (k - b) b n, length-last_digits (k - b) (n / 10 ^ b), N.drop-append_seam d (last_digits b n))
+    cc (
+      N.ap (λ j. last_digits j n) all,
+      N.DigitLemmas.last_digits-add (k - b) b n,
+      length-last_digits (k - b) (n / 10 ^ b),
+      N.drop-append_seam d (last_digits b n),
+    )
 
 -- of m digits in a word, without the first j, the last k
 pub digits_left : (j k m n : ℕ) {w : ℕ} → m ≡ j + k → w ≡ word_of (last_digits m n) → drop j (N.bytes_low_first 0 m w) ≡ last_digits k n
@@ -68,7 +71,7 @@ digits_left j k m n {w} em ew =
     rw (whole_word m w, ew, bytes, ← rest) (end_digits m k n (omega arith))
 
 -- the same, shifted past the first j
-pub last_put : (xs new : List ℕ) (at j k m n : ℕ) → length xs ≡ at → m ≡ j + k
+pub last_put : (xs new : List ℕ) (at j k m n : ℕ) → N.length xs ≡ at → m ≡ j + k
     → take (at + m) new ≡ xs ++ N.bytes_low_first 0 m (word_of (last_digits m n) / 2 ^ (8 * j))
     → take (at + k) new ≡ xs ++ last_digits k n
 last_put xs new at j k m n long em e = rw (← digits_left j k m n em refl) (shifted_put xs new at j k m _ long em e)
@@ -77,10 +80,10 @@ last_put xs new at j k m n long em e = rw (← digits_left j k m n em refl) (shi
 front_digits : (a b n : ℕ) → take a (last_digits (a + b) n) ≡ last_digits a (n / 10 ^ b)
 front_digits a b n =
     let d = last_digits a (n / 10 ^ b) in
-    grind (arith, (length-last_digits a (n / 10 ^ b)), (last_digits-add a b n), (N.take-append-add d (last_digits b n) 0), N.append-nil)
+    grind (arith, (length-last_digits a (n / 10 ^ b)), (N.DigitLemmas.last_digits-add a b n), (N.take-append-add d (last_digits b n) 0), N.append-nil)
 
 -- of m digits after `at` the first a
-pub front_put : (xs new : List ℕ) (at a b m n : ℕ) → length xs ≡ at → m ≡ a + b → take (at + m) new ≡ xs ++ last_digits m n
+pub front_put : (xs new : List ℕ) (at a b m n : ℕ) → N.length xs ≡ at → m ≡ a + b → take (at + m) new ≡ xs ++ last_digits m n
     → take (at + a) new ≡ xs ++ last_digits a (n / 10 ^ b)
 front_put xs new at a b m n long em e =
     cc (N.take-take (at + a) (at + m) new (omega arith), N.take-append-add xs (last_digits m n) a, front_digits a b n)

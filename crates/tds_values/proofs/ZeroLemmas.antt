@@ -1,8 +1,7 @@
 -- The zeros before a number's digits, counted as the zero bits of one number.
-use Rattle.tds_values.proofs.Words as N
-use Rattle.tds_values.proofs.Words.{◌≡◌, ◌⊎◌, inl, inr, ℕ, zero, suc, ◌+◌, ◌-◌, ◌*◌, ◌/◌, ◌%◌, ◌^◌, ◌<◌, ◌≤◌, refl, ap, arith}
-use Rattle.tds_values.proofs.DigitLemmas.{last_digits-add}
-use Rattle.tds_values.proofs.WordLemmas.{word_of}
+use Rattle.tds_values.proofs as N
+use N.{arith, suc, zero, ℕ, ◌%◌, ◌*◌, ◌+◌, ◌-◌, ◌/◌, ◌<◌, ◌^◌, ◌≡◌, ◌≤◌, ◌⊎◌}
+use N.WordLemmas.{word_of}
 use lib.Count.{count_trailing_zeros}
 
 -- the values of the last k + 1 digits as the bytes of a number, the first the lowest, and a bit more in the last
@@ -19,10 +18,10 @@ word_values : (k n : ℕ) → word_of (N.last_digits (suc k) n) ≡ values_of k 
 word_values zero n = omega arith
 word_values (suc k) n =
     let one : suc (suc k) ≡ 1 + suc k = omega arith in
-    omega (arith, ap (λ m. word_of (N.last_digits m n)) one, ap word_of (last_digits-add 1 (suc k) n), word_values k n)
+    omega (arith, N.ap (λ m. word_of (N.last_digits m n)) one, N.ap word_of (N.DigitLemmas.last_digits-add 1 (suc k) n), word_values k n)
 
 step : (bit t a : ℕ) → (bit ≡ 0 → t < a) → N.under bit t < suc a
-step zero t a h = let g = h refl in omega arith
+step zero t a h = let g = h N.refl in omega arith
 step _ t a h = omega arith
 
 -- below a set digit none counts
@@ -55,7 +54,7 @@ first_set : (k n t : ℕ) → t < 8 → n < 10 ^ suc k → (k ≡ 0) ⊎ (10 ^ k
 first_set k n t e small large = grind arith
 
 leading_zeros : (k n : ℕ) → n < 10 ^ suc k → HasLeadingZeros k n (count_trailing_zeros (8 * suc k) (values_of k n) / 8)
-leading_zeros zero n h = first_set 0 n _ (simp N.add-zero at (low_bit 8 0 (n % 10 + 16) 0 (omega arith) (omega arith))) h (inl refl)
+leading_zeros zero n h = first_set 0 n _ (simp N.add-zero at (low_bit 8 0 (n % 10 + 16) 0 (omega arith) (omega arith))) h (N.inl N.refl)
 leading_zeros (suc k) n h =
     let d = n / 10 ^ suc k in
     let v = values_of k n in
@@ -68,7 +67,7 @@ leading_zeros (suc k) n h =
       none,
       N.zero-add,
     ) (next k n _ _ (omega (arith, low_zeros 8 (8 * suc k) v)) (leading_zeros k n less)))
-    (λ more. first_set (suc k) n _ (low_bit 8 (8 * suc k) d v (N.le-div 1 n (10 ^ suc k) some (omega arith)) (omega arith)) h (inr more))
+    (λ more. first_set (suc k) n _ (low_bit 8 (8 * suc k) d v (N.le-div 1 n (10 ^ suc k) some (omega arith)) (omega arith)) h (N.inr more))
     (N.cases_lt n (10 ^ suc k)))
 
 -- a number of k + 1 digits in a word has as many leading zeros as bytes are 0 without 48

@@ -189,6 +189,7 @@ fn put_10(to: &mut [u8], at: usize, n: u32) -> usize
 
 // A number without leading zeros.
 #[inline(always)]
+#[tactic(auto, using(crate::proofs::DigitLemmas::decimal_eight, std::proofs::lemmas::List::append_assoc))]
 pub(crate) fn put_number(to: &mut [u8], at: usize, n: u64) -> usize
     requires { at + 24 ≤ length to.old }
     ensures end { result ≤ at + 24 }

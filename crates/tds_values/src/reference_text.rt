@@ -76,6 +76,7 @@ fn push_minus(text: &mut ScalarText, negative: bool)
 }
 
 // The whole part of a magnitude in units of the scale.
+#[tactic(auto, using(crate::proofs::TextLengths::whole_lengths))]
 fn push_whole(text: &mut ScalarText, magnitude: u128, scale: u8)
     requires room { array_vec_len text.old + 39 ≤ TEXT_ROOM }
     requires scale { scale ≤ 38 }
@@ -112,6 +113,7 @@ fn push_decimal(text: &mut ScalarText, negative: bool, magnitude: u128, scale: u
 }
 
 // Lower-case hexadecimal digits, 8-4-4-4-12.
+#[tactic(auto, using(uuid::proofs::TextLemmas::by_index_length))]
 fn push_guid(text: &mut ScalarText, id: Uuid)
     requires { array_vec_len text.old + 36 ≤ TEXT_ROOM }
     ensures items { text.new.items ≡ text.old.items ++ hyphenated_text lower id }

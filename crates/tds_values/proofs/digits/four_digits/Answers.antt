@@ -1,5 +1,4 @@
-use Rattle.tds_values.proofs.Words.{arith}
-use Rattle.tds_values.proofs.TableLemmas.{four_at}
+use Rattle.tds_values.proofs as N
 
-pub returns : Rattle.tds_values.proofs.digits.four_digits.Goals.returns
-returns c = four_at c.args.n _ c.requires (omega arith)
+pub returns : N.digits.four_digits.Goals.returns
+returns = grind (N.arith, N.TableLemmas.four_at)

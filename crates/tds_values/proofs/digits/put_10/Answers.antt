@@ -1,5 +1,4 @@
-use Rattle.tds_values.proofs.Words.{arith, append_assoc}
-use Rattle.tds_values.proofs.DigitLemmas.{decimal_eight}
+use Rattle.tds_values.proofs as N
 
-pub returns-clause-written : Rattle.tds_values.proofs.digits.put_10.Goals.returns-clause-written
-returns-clause-written c = grind (arith, append_assoc, decimal_eight)
+pub returns-clause-written : N.digits.put_10.Goals.returns-clause-written
+returns-clause-written = grind (N.arith, N.append_assoc, N.DigitLemmas.decimal_eight)

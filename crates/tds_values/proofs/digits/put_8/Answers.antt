@@ -1,5 +1,5 @@
-use Rattle.tds_values.proofs.Words.{◌-◌, arith}
-use Rattle.tds_values.proofs.DigitLemmas.{decimal_last}
+use Rattle.tds_values.proofs as N
+use N.{◌-◌}
 
-pub returns-clause-written : Rattle.tds_values.proofs.digits.put_8.Goals.returns-clause-written
-returns-clause-written c = grind (arith, (decimal_last (7 - c.leading_zeros.result) c.args.n))
+pub returns-clause-written : N.digits.put_8.Goals.returns-clause-written
+returns-clause-written c = grind (N.arith, N.DigitLemmas.decimal_last (7 - c.leading_zeros.result))

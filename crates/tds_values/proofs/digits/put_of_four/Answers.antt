@@ -1,5 +1,4 @@
-use Rattle.tds_values.proofs.Words.{arith, common_steps}
-use Rattle.tds_values.proofs.WordLemmas.{end_digits}
+use Rattle.tds_values.proofs as N
 
-pub returns-clause-written : Rattle.tds_values.proofs.digits.put_of_four.Goals.returns-clause-written
-returns-clause-written g c = grind (arith, common_steps, (end_digits 4 g.row.N c.args.n))
+pub returns-clause-written : N.digits.put_of_four.Goals.returns-clause-written
+returns-clause-written = grind (N.arith, N.common_steps, N.WordLemmas.end_digits 4)

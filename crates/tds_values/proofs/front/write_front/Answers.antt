@@ -1,6 +1,7 @@
+use Rattle.tds_values.proofs as N
+use N.front.write_front.Goals as goal
+use N.{ap, arith, sym, ◌∙◌}
 use Rattle.tds_values.specs.declared.kind.Kind.TheVariants as kinds
-use Rattle.tds_values.proofs.Words.{ap, arith, sym, ◌∙◌}
-use Rattle.tds_values.proofs.front.write_front.Goals as goal
 
 pub returns-in_ok-value-in-Decimal-clause-text : goal.returns-in_ok-value-in-Decimal-clause-text
 returns-in_ok-value-in-Decimal-clause-text g c =

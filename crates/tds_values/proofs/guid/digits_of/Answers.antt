@@ -1,6 +1,4 @@
-use Rattle.tds_values.proofs.guid.digits_of.Goals as goal
-use Rattle.tds_values.proofs.Words.{◌∙◌}
-use Rattle.tds_values.proofs.LaneLemmas.{guid_digits}
+use Rattle.tds_values.proofs as N
 
-pub returns-clause-digits : goal.returns-clause-digits
-returns-clause-digits c = c.hex_lanes.ensures.digits ∙ guid_digits c.args.bytes c.requires c.fits-bytes.1
+pub returns-clause-digits : N.guid.digits_of.Goals.returns-clause-digits
+returns-clause-digits = grind (N.arith, N.LaneLemmas.guid_digits)

@@ -1,9 +1,7 @@
-use Rattle.tds_values.proofs.lanes.digits.Goals as goal
-use Rattle.tds_values.proofs.Words.{refl, arith, w8, SwzOk-from_below}
-use Rattle.tds_values.proofs.LaneLemmas.{looked_up}
+use Rattle.tds_values.proofs as N
 
-pub swizzle : goal.swizzle
-swizzle c = SwzOk-from_below w8 16 1 16 0 c.args.numbers refl (omega arith) c.requires.small
+pub swizzle : N.lanes.digits.Goals.swizzle
+swizzle c = N.SwzOk-from_below N.w8 16 1 16 0 _ N.refl (omega N.arith) c.requires.small
 
-pub returns : goal.returns
-returns c = looked_up 0 c.args.numbers (omega arith) c.requires.small
+pub returns : N.lanes.digits.Goals.returns
+returns c = N.LaneLemmas.looked_up 0 _ (omega N.arith) c.requires.small

@@ -1,5 +1,4 @@
-use Rattle.tds_values.proofs.Words.{arith}
-use Rattle.tds_values.proofs.TableLemmas.{day_at}
+use Rattle.tds_values.proofs as N
 
-pub returns : Rattle.tds_values.proofs.moments.day_after_march.Goals.returns
-returns c = day_at c.args.before _ c.requires (omega arith)
+pub returns : N.moments.day_after_march.Goals.returns
+returns = grind (N.arith, N.TableLemmas.day_at)

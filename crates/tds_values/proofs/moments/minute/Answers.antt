@@ -1,5 +1,4 @@
-use Rattle.tds_values.proofs.Words.{arith}
-use Rattle.tds_values.proofs.TableLemmas.{minute_at}
+use Rattle.tds_values.proofs as N
 
-pub returns : Rattle.tds_values.proofs.moments.minute.Goals.returns
-returns c = minute_at c.args.minutes _ c.requires (omega arith)
+pub returns : N.moments.minute.Goals.returns
+returns = grind (N.arith, N.TableLemmas.minute_at)

@@ -1,5 +1,4 @@
-use Rattle.tds_values.proofs.Words.{arith, append_assoc}
-use Rattle.tds_values.proofs.MarchLemmas.{march_date_text}
+use Rattle.tds_values.proofs as N
 
-pub returns-clause-written : Rattle.tds_values.proofs.moments.put_date.Goals.returns-clause-written
-returns-clause-written c = grind (arith, append_assoc, march_date_text)
+pub returns-clause-written : N.moments.put_date.Goals.returns-clause-written
+returns-clause-written = grind (N.arith, N.append_assoc, N.MarchLemmas.march_date_text)

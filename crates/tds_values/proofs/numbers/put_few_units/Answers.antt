@@ -1,6 +1,4 @@
-use Rattle.tds_values.proofs.numbers.put_few_units.Goals as goal
-use Rattle.tds_values.proofs.Words.{arith}
-use Rattle.tds_values.proofs.DigitLemmas.{decimal_units}
+use Rattle.tds_values.proofs as N
 
-pub returns-clause-written : goal.returns-clause-written
-returns-clause-written c = grind (arith, (decimal_units 7 c.args.scale c.leading_zeros.result c.args.n))
+pub returns-clause-written : N.numbers.put_few_units.Goals.returns-clause-written
+returns-clause-written = grind (N.arith, N.DigitLemmas.decimal_units)

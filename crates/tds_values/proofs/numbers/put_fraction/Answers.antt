@@ -1,5 +1,4 @@
-use Rattle.tds_values.proofs.numbers.put_fraction.Goals as goal
-use Rattle.tds_values.proofs.Words.{arith, pow-le-pow_right}
+use Rattle.tds_values.proofs as N
 
-pub put_tail-requires-clause-small : goal.put_tail-requires-clause-small
-put_tail-requires-clause-small c = let power = pow-le-pow_right {n = 10} (omega arith) c.requires.scale in grind arith
+pub put_tail-requires-clause-small : N.numbers.put_fraction.Goals.put_tail-requires-clause-small
+put_tail-requires-clause-small = grind (N.arith, N.pow-le-pow_right)

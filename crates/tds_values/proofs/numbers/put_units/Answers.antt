@@ -1,6 +1,4 @@
-use Rattle.tds_values.proofs.Words.{arith, append_assoc}
-use Rattle.tds_values.proofs.DigitLemmas.{decimal_above, last_digits-below}
+use Rattle.tds_values.proofs as N
 
-pub returns-clause-written : Rattle.tds_values.proofs.numbers.put_units.Goals.returns-clause-written
-returns-clause-written c =
-    grind (arith, append_assoc, (decimal_above c.args.scale c.args.n), (last_digits-below c.args.scale 8 c.args.n))
+pub returns-clause-written : N.numbers.put_units.Goals.returns-clause-written
+returns-clause-written c = grind (N.arith, N.append_assoc, N.DigitLemmas.decimal_above, N.DigitLemmas.last_digits-below c.args.scale 8)

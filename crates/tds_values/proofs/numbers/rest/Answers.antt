@@ -1,5 +1,4 @@
-use Rattle.tds_values.proofs.Words.{◌^◌, arith, div-add-mod}
-use Rattle.tds_values.proofs.TableLemmas.{power_at}
+use Rattle.tds_values.proofs as N
 
-pub returns-clause-units : Rattle.tds_values.proofs.numbers.rest.Goals.returns-clause-units
-returns-clause-units c = grind (arith, power_at, (div-add-mod c.args.n (10 ^ c.args.scale)))
+pub returns-clause-units : N.numbers.rest.Goals.returns-clause-units
+returns-clause-units = grind (N.arith, N.TableLemmas.power_at, N.div-add-mod)

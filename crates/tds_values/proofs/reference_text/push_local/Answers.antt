@@ -1,5 +1,5 @@
-use Rattle.tds_values.proofs.Words.{append_assoc}
+use Rattle.tds_values.proofs as N
 
-pub returns-clause-items : Rattle.tds_values.proofs.reference_text.push_local.Goals.returns-clause-items
+pub returns-clause-items : N.reference_text.push_local.Goals.returns-clause-items
 returns-clause-items c =
-    simp (c.push_fraction.ensures.items, c.push_seconds.ensures.items, c.push.ensures.items, c.push_date.ensures.items, append_assoc)
+    simp (c.push_fraction.ensures.items, c.push_seconds.ensures.items, c.push.ensures.items, c.push_date.ensures.items, N.append_assoc)

@@ -1,5 +1,4 @@
-use Rattle.tds_values.proofs.Words.{arith}
-use Rattle.tds_values.proofs.LocalLemmas.{local_by_seconds}
+use Rattle.tds_values.proofs as N
 
-pub returns : Rattle.tds_values.proofs.scalar.is_local.Goals.returns
-returns c = grind (arith, local_by_seconds)
+pub returns : N.scalar.is_local.Goals.returns
+returns = grind (N.arith, N.LocalLemmas.local_by_seconds)

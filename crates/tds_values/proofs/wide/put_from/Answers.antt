@@ -1,6 +1,4 @@
-use Rattle.tds_values.proofs.Words.{arith, length-take-le, take}
-use Rattle.tds_values.proofs.WideDigits.{digits_from}
+use Rattle.tds_values.proofs as N
 
-pub returns-clause-written : Rattle.tds_values.proofs.wide.put_from.Goals.returns-clause-written
-returns-clause-written c =
-    grind (arith, (digits_from (take c.args.at c.args.to.now) c.put_piece.new.to c.args.digits.now c.args.at c.args.skipped 40), length-take-le)
+pub returns-clause-written : N.wide.put_from.Goals.returns-clause-written
+returns-clause-written = grind (N.arith, N.WideDigits.digits_from, N.length-take-le)

@@ -1,6 +1,4 @@
-use Rattle.tds_values.proofs.write.write_int4.Goals as goal
-use Rattle.tds_values.proofs.Words.{arith, rules}
-use Rattle.tds_values.proofs.TextLengths.{length-int4}
+use Rattle.tds_values.proofs as N
 
-pub returns-clause-most : goal.returns-clause-most
-returns-clause-most c = length-int4 _ _ _ c.put_integer.ensures.written (search (arith, rules)) (grind arith)
+pub returns-clause-most : N.write.write_int4.Goals.returns-clause-most
+returns-clause-most c = N.TextLengths.length-int4 _ _ _ c.put_integer.ensures.written (search (N.arith, N.rules)) (grind N.arith)

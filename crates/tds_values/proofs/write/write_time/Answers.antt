@@ -1,10 +1,4 @@
-use Rattle.tds_values.proofs.write.write_time.Goals as goal
-use Rattle.tds_values.proofs.Words.{arith}
-use Rattle.tds_values.proofs.DigitLemmas.{fraction_rest}
-use Rattle.tds_values.proofs.WrittenLemmas.{time_by_seconds}
+use Rattle.tds_values.proofs as N
 
-pub returns-then-seconds-ge-SECONDS_A_DAY : goal.returns-then-seconds-ge-SECONDS_A_DAY
-returns-then-seconds-ge-SECONDS_A_DAY c = grind arith
-
-pub returns : goal.returns
-returns c = grind (arith, (fraction_rest c.args.scale c.in_ok-units.units), (time_by_seconds c.args.scale c.in_ok-units.units))
+pub returns : N.write.write_time.Goals.returns
+returns c = grind (N.arith, N.DigitLemmas.fraction_rest c.args.scale c.in_ok-units.units, N.WrittenLemmas.time_by_seconds c.args.scale c.in_ok-units.units)
