@@ -1,6 +1,6 @@
 -- Decimal digits, some at a time.
 use Rattle.tds_values.proofs as N
-use N.{ap, arith, decimal, inl, inr, last_digits, min, pow-add, suc, zero, ℕ, ◌%◌, ◌*◌, ◌++◌, ◌+◌, ◌-◌, ◌/◌, ◌<◌, ◌^◌, ◌≡◌, ◌≤◌, ◌⊎◌}
+use N.{ap, arith, decimal, inr, last_digits, pow-add, suc, zero, ℕ, ◌%◌, ◌*◌, ◌++◌, ◌+◌, ◌-◌, ◌/◌, ◌<◌, ◌^◌, ◌≡◌, ◌≤◌, ◌⊎◌}
 
 -- what lies above the last digits doesn't change them
 pub last_digits-above : (k q n : ℕ) → last_digits k (10 ^ k * q + n) ≡ last_digits k n
@@ -12,7 +12,7 @@ last_digits-above (suc k) q n =
 
 -- the last digits depend on a remainder alone
 pub last_digits-mod : (k n : ℕ) → last_digits k (n % 10 ^ k) ≡ last_digits k n
-last_digits-mod k n = rw (← last_digits-above k (n / 10 ^ k) (n % 10 ^ k), N.div-add-mod n (10 ^ k))
+last_digits-mod = grind (arith, last_digits-above, N.div-add-mod)
 
 -- and on a remainder by a larger power
 pub last_digits-below : (k m n : ℕ) → k ≤ m → last_digits k (n % 10 ^ m) ≡ last_digits k n
@@ -43,7 +43,7 @@ decimal_split (suc k) n h small =
 -- the text of a number of k + 1 digits
 pub decimal_last : (k n : ℕ) → (k ≡ 0) ⊎ (10 ^ k ≤ n) → n < 10 ^ suc k → n < 10 ^ 64 → decimal n ≡ last_digits (suc k) n
 decimal_last zero n low fits small = grind (arith, N.decimal_digit)
-decimal_last (suc k) n (inl none) fits small = absurd (omega arith)
+decimal_last (suc k) n (N.inl none) fits small = absurd (omega arith)
 decimal_last (suc k) n (inr low) fits small =
     let l = large k n low in
     rw (N.decimal_step_wide n l.0 small, decimal_last k (n / 10) (inr l.1) (omega arith) (omega arith))
@@ -65,21 +65,14 @@ units_last top scale skipped n few fits needed small =
     let all : suc top - skipped ≡ suc k + scale = omega arith in
     let some = N.one-le-pow scale 10 (omega arith) in
     let below : n / 10 ^ scale < 10 ^ suc k = N.div_below n (10 ^ scale) (10 ^ suc k) some (rw (← pow-add 10 (suc k) scale, ← all) fits) in
-    let low : (k ≡ 0) ⊎ (10 ^ k ≤ n / 10 ^ scale) = N.⊎_elim (λ e. inl (omega arith))
+    let low : (k ≡ 0) ⊎ (10 ^ k ≤ n / 10 ^ scale) = N.⊎_elim (λ e. N.inl (omega arith))
     (λ h. inr (N.le-div (10 ^ k) n (10 ^ scale) some (let e : k + scale ≡ top - skipped = omega arith in rw (← pow-add 10 k scale, e) h))) needed in
     rw width (decimal_last k (n / 10 ^ scale) low below (omega arith))
 
 -- with the leading zeros of top + 1 digits, but for the last before the point
 pub decimal_units : (top scale zeros n : ℕ) → scale ≤ top → n < 10 ^ 64 → zeros ≤ top → n < 10 ^ (suc top - zeros) → (zeros ≡ top) ⊎ (10 ^ (top - zeros) ≤ n)
-    → decimal (n / 10 ^ scale) ≡ last_digits (suc top - scale - min zeros (top - scale)) (n / 10 ^ scale)
-decimal_units top scale zeros n few small most fits needed = N.⊎_elim
-    (λ h. let few_zeros : min zeros (top - scale) ≡ zeros = omega arith in
-    rw few_zeros (units_last top scale zeros n (omega arith) fits (N.⊎_elim (λ e. inl (omega arith)) inr needed) small))
-    (λ h. let all_but_one : min zeros (top - scale) ≡ top - scale = omega arith in
-    let longer : suc top - zeros ≤ suc top - (top - scale) = omega arith in
-    let power = N.pow-le-pow_right {n = 10} (omega arith) longer in
-    rw all_but_one (units_last top scale (top - scale) n (omega arith) (omega arith) (inl (omega arith)) small))
-    (N.cases_lt zeros (suc top - scale))
+    → decimal (n / 10 ^ scale) ≡ last_digits (suc top - scale - N.min zeros (top - scale)) (n / 10 ^ scale)
+decimal_units = grind (arith, units_last, N.pow-le-pow_right, N.cases_lt)
 
 -- the whole part of units of a scale that have more than eight digits
 pub decimal_above : (scale n : ℕ) → scale ≤ 7 → 100000000 ≤ n → n < 10 ^ 64

@@ -4,7 +4,7 @@ use N.{ap, arith, codes, length, take, ℕ, ◌++◌, ◌+◌, ◌∙◌, ◌≡
 use Rattle.tds_values.specs.ScalarText.{march_text}
 
 pub joined : (t a b d x y : N.List ℕ) → x ≡ t ++ a → y ≡ x ++ b → d ≡ a ++ b → y ≡ t ++ d
-joined t a b d x y ex ey ed = rw (ey, ex, ed, N.append_assoc)
+joined = grind (arith, N.append_assoc)
 
 -- where a piece ends
 pub end_of : (old new piece : N.List ℕ) (at r : ℕ) → at ≤ length old → r ≤ length new → take r new ≡ take at old ++ piece → r ≡ at + length piece

@@ -3,7 +3,7 @@ use Rattle.tds_values.proofs as N
 use N.{arith, ℕ, ℤ, ◌%◌, ◌*◌, ◌++◌, ◌+◌, ◌/◌, ◌<◌, ◌^◌, ◌≡◌}
 
 more : (p x t f : ℕ) → f < p → t < x → t * p + f < x * p
-more p x t f h less = omega (arith, N.mul-le (t + 1) p x p (omega arith) (omega arith))
+more = grind (arith, N.mul-le)
 
 -- a local time lies in the calendar where its seconds do
 pub local_by_seconds : (scale units day : ℕ) (offset : ℤ) → N.is_local scale units day offset ≡ N.is_some (N.local_seconds (units / 10 ^ scale) day offset)

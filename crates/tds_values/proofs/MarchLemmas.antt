@@ -33,9 +33,7 @@ unpacked m d most counted before h = grind (arith, N.nat_tests)
 
 in_year : (n y before k : ℕ) → 1 ≤ y → is_day (N.is_leap_year y) before k ≡ true → n ≡ N.days_before_year y + before
     → N.IsDateOf n (record { year = y; month = (since_march k).0; day = (since_march k).1 })
-in_year n y before k some h e =
-    let all = unpacked (since_march k).0 (since_march k).1 _ _ before h in
-    omega (arith, e, some, all)
+in_year = grind (arith, unpacked)
 
 year_length : (y : ℕ) → 1 ≤ y → N.days_before_year (y + 1) ≡ N.days_before_year y + 365 + leap_day (N.is_leap_year y)
 year_length y some = grind (arith, N.nat_tests)

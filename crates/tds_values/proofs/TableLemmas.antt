@@ -17,7 +17,7 @@ joined_from text N.zero m = []
 joined_from text (suc n) m = text m ++ joined_from text n (suc m)
 
 first : (w j : ℕ) (xs ys : List ℕ) → j ≡ 0 → length xs ≡ w → take w (drop j (xs ++ ys)) ≡ xs
-first w j xs ys e long = rw (e, N.take-append-le w xs ys (omega arith)) (N.take_all w xs (omega arith))
+first = grind (arith, N.take-append-le, N.take_all)
 
 -- of texts of w bytes each the one of a number
 text_at : (text : ℕ → List ℕ) (w : ℕ) → ((m : ℕ) → length (text m) ≡ w) → (k n m : ℕ) → k < n
@@ -36,7 +36,7 @@ unfolding joined_from
 four_digits = refl
 
 pub four_at : (n k : ℕ) → n < 10000 → k ≡ 4 → take k (drop (4 * n) N.FOUR_DIGITS) ≡ last_digits 4 n
-four_at n k h e = rw (e, four_digits) (rw N.add-zero at (text_at (last_digits 4) 4 (length-last_digits 4) n 10000 0 h))
+four_at = grind (arith, four_digits, N.add-zero, text_at, length-last_digits)
 
 -- how many digits a small number has, and these in three bytes before that number
 abbrev small_size : ℕ → ℕ
@@ -73,7 +73,7 @@ unfolding joined_from
 minutes = refl
 
 pub minute_at : (m k : ℕ) → m < 1440 → k ≡ 8 → take k (drop (8 * m) N.MINUTES) ≡ minutes_text m ++ codes ":" ++ last_digits 2 0
-minute_at m k h e = rw (e, minutes) (rw (N.add-zero m) at (text_at (λ m. minutes_text m ++ codes ":" ++ last_digits 2 0) 8 (λ m. refl) m 1440 0 h))
+minute_at = grind (arith, minutes, N.add-zero, text_at)
 
 -- and those of the days of a year from 1 March on
 days : N.DAYS ≡ joined_from (λ n. march_text n ++ codes "  ") 366 0
@@ -81,7 +81,7 @@ unfolding joined_from
 days = refl
 
 pub day_at : (n k : ℕ) → n < 366 → k ≡ 8 → take k (drop (8 * n) N.DAYS) ≡ march_text n ++ codes "  "
-day_at n k h e = rw (e, days) (rw (N.add-zero n) at (text_at (λ n. march_text n ++ codes "  ") 8 (λ n. refl) n 366 0 h))
+day_at = grind (arith, N.common_steps, days, N.add-zero, text_at)
 
 pub power_at : (scale : ℕ) → scale < 20 → N.get_or POWERS scale 0 ≡ 10 ^ scale
 power_at = each_below _ _ 20 refl

@@ -19,15 +19,7 @@ digits_from xs new ds at s m long few more e =
 -- the digits above the last k, of which a group has eight, and that group
 group_after : (a k n g : ℕ) {front : List ℕ} → g ≡ n / 10 ^ k % 10 ^ 8 → front ≡ last_digits a (n / 10 ^ (k + 8))
     → front ++ last_digits 8 g ≡ last_digits (a + 8) (n / 10 ^ k)
-group_after a k n g eg ef =
-    rw (
-      N.DigitLemmas.last_digits-add a 8 (n / 10 ^ k),
-      N.div-div-eq-div-mul n (10 ^ k) (10 ^ 8),
-      ← N.pow-add 10 k 8,
-      ef,
-      eg,
-      N.DigitLemmas.last_digits-mod 8 (n / 10 ^ k),
-    ) N.refl
+group_after = grind (arith, N.DigitLemmas.last_digits-add, N.div-div-eq-div-mul, N.pow-add, N.DigitLemmas.last_digits-mod)
 
 -- five groups of eight digits
 pub forty : (n : ℕ) {gs front one two three four : List ℕ} → n < 2 ^ 128 → gs ≡ groups_of n → front ≡ last_digits 8 (get_or gs 0 0)

@@ -37,7 +37,7 @@ low_bytes i (suc k) n = grind (arith, N.div-div-eq-div-mul, (low_bytes (suc i) k
 
 -- the bytes of a whole number
 pub whole_word : (m w : ℕ) → N.bytes_low_first 0 m w ≡ bytes_of m w
-whole_word m w = let one : w / 256 ^ 0 ≡ w = omega arith in rw one at (low_bytes 0 m w)
+whole_word = grind (arith, low_bytes)
 
 eighth_power : (k : ℕ) → 2 ^ (8 * k) ≡ 256 ^ k
 eighth_power zero = refl
@@ -53,15 +53,7 @@ shifted_put xs new at j k m w long em e =
 
 -- of k digits the last b
 pub end_digits : (k b n : ℕ) → b ≤ k → drop (k - b) (last_digits k n) ≡ last_digits b n
-end_digits k b n few =
-    let all : k ≡ (k - b) + b = omega arith in
-    let d = last_digits (k - b) (n / 10 ^ b) in
-    cc (
-      N.ap (λ j. last_digits j n) all,
-      N.DigitLemmas.last_digits-add (k - b) b n,
-      length-last_digits (k - b) (n / 10 ^ b),
-      N.drop-append_seam d (last_digits b n),
-    )
+end_digits = grind (arith, N.common_steps, N.DigitLemmas.last_digits-add, length-last_digits, N.drop-append_seam)
 
 -- of m digits in a word, without the first j, the last k
 pub digits_left : (j k m n : ℕ) {w : ℕ} → m ≡ j + k → w ≡ word_of (last_digits m n) → drop j (N.bytes_low_first 0 m w) ≡ last_digits k n
@@ -78,9 +70,7 @@ last_put xs new at j k m n long em e = rw (← digits_left j k m n em refl) (shi
 
 -- of a + b digits the first a
 front_digits : (a b n : ℕ) → take a (last_digits (a + b) n) ≡ last_digits a (n / 10 ^ b)
-front_digits a b n =
-    let d = last_digits a (n / 10 ^ b) in
-    grind (arith, (length-last_digits a (n / 10 ^ b)), (N.DigitLemmas.last_digits-add a b n), (N.take-append-add d (last_digits b n) 0), N.append-nil)
+front_digits = grind (arith, N.common_steps, length-last_digits, N.DigitLemmas.last_digits-add, N.take-append-add, N.append-nil)
 
 -- of m digits after `at` the first a
 pub front_put : (xs new : List ℕ) (at a b m n : ℕ) → N.length xs ≡ at → m ≡ a + b → take (at + m) new ≡ xs ++ last_digits m n
