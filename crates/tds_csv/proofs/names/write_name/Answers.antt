@@ -1,10 +1,10 @@
 use Rattle.tds_csv.proofs as N
-use N.{◌≡◌, ◌∙◌, ℕ, List, ◌+◌, ◌++◌, ◌≤◌, take, ap}
+use N.{take, ℕ, ◌++◌, ◌+◌, ◌∙◌, ◌≡◌, ◌≤◌}
 use Rattle.tds_text.specs.Quoting.{end_after}
 
 -- the comma, and the field that was written after it
-in_place : (column start made : ℕ) (first new rest text : List ℕ) → start ≤ N.length first → made ≤ N.length new → take made new ≡ text
-    → ((t : List ℕ) → take start first ++ t ≡ N.after_comma column t) → take (start + made) (take start first ++ (new ++ rest)) ≡ N.after_comma column text
+in_place : (column start made : ℕ) (first new rest text : N.List ℕ) → start ≤ N.length first → made ≤ N.length new → take made new ≡ text
+    → ((t : N.List ℕ) → take start first ++ t ≡ N.after_comma column t) → take (start + made) (take start first ++ (new ++ rest)) ≡ N.after_comma column text
 in_place column start made first new rest text there within is comma =
     let l = N.length-take-le start first there in
     let front = rw l at (N.take-append-add (take start first) (new ++ rest) made) in
@@ -12,5 +12,5 @@ in_place column start made first new rest text there within is comma =
 
 pub returns-clause-text : N.names.write_name.Goals.returns-clause-text
 returns-clause-text c = c.write_line_end.ensures.text
-    ∙ ap (λ t. t ++ end_after c.args.last) (in_place c.args.column c.write_comma-start.result c.write_units-made.result c.write_comma-start.new.to
+    ∙ N.ap (λ t. t ++ end_after c.args.last) (in_place c.args.column c.write_comma-start.result c.write_units-made.result c.write_comma-start.new.to
     c.write_units-made.new.to _ _ (omega N.arith) (omega N.arith) c.write_units-made.ensures.field c.write_comma-start.ensures.text)

@@ -11,6 +11,3 @@ loop-taken-preserved g c = record {
   within = search N.rules;
   puts = N.PutParts.puts_more (λ l. l) (λ x y. N.refl) _ (c.loop-taken.taken + _) _ (omega N.arith) c.loop-taken.invariant.puts c.in_ok-push.ensures;
 }
-
-pub returns : goal.returns
-returns = grind (N.arith, N.take_all)
