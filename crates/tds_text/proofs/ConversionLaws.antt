@@ -2,6 +2,8 @@
 use Rattle.tds_text.proofs as N
 use N.{◌≡◌, ℕ, ◌%◌, true, List, [], ◌++◌, arith, ◌↔◌, Conversion, is_fit}
 
+pub ruleset utf8_tests = (N.IsUtf8-from_is_utf8, N.is_utf8-from_IsUtf8)
+
 pub fit_by_test : (c : Conversion) (bytes : List ℕ) → (is_fit c bytes ≡ true) ↔ N.IsFit c bytes
 fit_by_test = grind (arith, N.IsUtf8-from_is_utf8, N.is_utf8-from_IsUtf8)
 

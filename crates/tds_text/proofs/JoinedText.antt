@@ -1,11 +1,11 @@
 -- Text whose characters have one or two bytes, found by a look at each byte with the next one.
 use Rattle.tds_text.proofs as N
-use N.{List, arith, drop, false, get_or, is_lead, suc, take, true, zero, ℕ, [], ⊤, ◌++◌, ◌+◌, ◌-◌, ◌<◌, ◌∙◌, ◌∷◌, ◌≡◌, ◌≤◌}
+use N.{List, arith, drop, false, get_or, is_lead, suc, take, true, zero, ℕ, [], ◌++◌, ◌+◌, ◌-◌, ◌<◌, ◌∙◌, ◌∷◌, ◌≡◌, ◌≤◌}
 use Rattle.tds_text.specs.Utf8Scan.{AreUnquoted}
 
 -- Each of the first bytes, this number of them, goes on with such a text, by the next one.
 pub AreJoined : ℕ → List ℕ → Type 0
-AreJoined zero xs = ⊤
+AreJoined zero xs = N.⊤
 AreJoined (suc n) (a ∷ b ∷ xs) = (N.is_joined (a, b) ≡ true) × AreJoined n (b ∷ xs)
 AreJoined (suc n) xs = ⊥
 
@@ -28,7 +28,7 @@ abbrev IsUnquoted : List ℕ → Type 0
 IsUnquoted text = N.IsUtf8 text × (N.doubled text ≡ text)
 
 after : (front text : List ℕ) → IsUnquoted front → IsUnquoted text → IsUnquoted (front ++ text)
-after front text first more = (N.IsUtf8-append front text first.0 more.0, rw (N.JoiningLemmas.doubled-append front text, first.1, more.1))
+after = grind (arith, N.common_steps, N.IsUtf8-append, N.JoiningLemmas.doubled-append)
 
 after_one : (a : ℕ) (text : List ℕ) → N.is_plain a ≡ true → IsUnquoted text → IsUnquoted (a ∷ text)
 after_one a text plain = after (a ∷ []) text (N.Singles.one_utf8 a (grind arith), grind arith)
@@ -58,7 +58,7 @@ module _ (bytes source : List ℕ) (at : ℕ) (lies : N.LiesIn bytes source) (th
     (first : N.is_trail (get_or source at 0) ≡ false) (n : ℕ) (within : at + n ≤ N.length bytes)
     (few : n ≤ N.prefix_len N.is_joined (N.pairs_at at source)) where
   most : n ≤ 16
-  most = omega (arith, few, N.LaneMasks.pairs_most source at there)
+  most = grind (arith, N.LaneMasks.pairs_most)
 
   text_of : (k : ℕ) → k ≤ n → ((j : ℕ) → k ≡ suc j → is_lead (get_or (drop at source) j 0) ≡ false) → AreUnquoted bytes at k
   text_of k less last =

@@ -6,8 +6,10 @@ use N.{Leads, List, arith, drop, emit, length, take, ℕ, [], ◌++◌, ◌+◌,
 pub doubled-append : (x y : List ℕ) → N.doubled (x ++ y) ≡ N.doubled x ++ N.doubled y
 doubled-append = N.flat_map-append N.doubled_byte
 
+pub ruleset doubled_runs = (doubled-append, N.take_more, N.take-add)
+
 pub doubled_bytewise : N.IsBytewise N.doubled
-doubled_bytewise = record { appends = doubled-append; empty = N.refl }
+doubled_bytewise = grind (arith, doubled-append)
 
 -- what stands before the rest is settled
 pub settled_front : (rest : List ℕ → List ℕ) (bytes front : List ℕ) → bytes ≡ front ++ rest bytes → N.settled rest bytes ≡ front
@@ -23,10 +25,10 @@ pub record HasFronts (rest text front : List ℕ → List ℕ) : Type 0 where
 
 module _ {rest text front : List ℕ → List ℕ} (fronts : HasFronts rest text front) where
   pub emit-front : (a : List ℕ) → emit rest text a ≡ text (front a)
-  emit-front a = N.ap text (settled_front rest a (front a) (fronts.whole a))
+  emit-front = grind (arith, N.common_steps, settled_front)
 
   pub emits : (a b : List ℕ) → emit rest text (a ++ b) ≡ emit rest text a ++ emit rest text (rest a ++ b)
-  emits a b = rw (emit-front (a ++ b), emit-front a, emit-front (rest a ++ b), fronts.front_is a b) (fronts.more a b)
+  emits = grind (arith, N.common_steps, emit-front)
 
   pub ends : (a : List ℕ) → text a ≡ emit rest text a ++ text (rest a)
   ends a = cc (fronts.whole a, fronts.last a, emit-front a)

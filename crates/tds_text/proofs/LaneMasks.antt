@@ -1,13 +1,13 @@
 -- Masks of lanes that pass a test.
 use Rattle.tds_text.proofs as N
-use N.{Bool, Each1, Fits, List, arith, bit_and, bit_or, chunk, cond, drop, false, fold_l, length, ltb, map, mask_l, not, refl, replicate, suc, take, true}
-use N.{w16, w8, zero, zip2, ℕ, [], ◌%◌, ◌*◌, ◌++◌, ◌+◌, ◌-◌, ◌/◌, ◌<◌, ◌^◌, ◌||◌, ◌↔◌, ◌∙◌, ◌∷◌, ◌≡◌, ◌≤◌}
+use N.{Bool, Each1, Fits, List, arith, bit_and, bit_or, chunk, cond, drop, false, fold_l, length, ltb, map, mask_l, not, refl, replicate, suc, take, true, w16}
+use N.{w8, zero, zip2, ℕ, [], ◌%◌, ◌*◌, ◌++◌, ◌+◌, ◌-◌, ◌/◌, ◌<◌, ◌^◌, ◌↔◌, ◌∙◌, ◌∷◌, ◌≡◌, ◌≤◌}
 
 -- ---- what is computed lane by lane
 
 -- a number beside what was computed of each lane
 pub mapped : {A : Type 0} (f : ℕ → ℕ → ℕ) (g : A → ℕ) (xs : List A) (n y : ℕ) → length xs ≡ n → zip2 f (map g xs) (replicate n y) ≡ map (λ x. f (g x) y) xs
-mapped f g xs n y long = N.zip2_splat f (map g xs) n y (N.length-map xs g ∙ long) ∙ N.map-map (λ x. f x y) g xs
+mapped = grind (arith, N.common_steps, N.zip2_splat, N.length-map, N.map-map)
 
 -- of two vectors, each lane of the first with the one of the second
 pub side_by_side : {A B : Type 0} (op : ℕ → ℕ → ℕ) (f : A → ℕ) (g : B → ℕ) (xs : List A) (ys : List B)
@@ -113,6 +113,8 @@ zeros_after q n us m is zeros fails =
     let rest : mask_l (map q (drop n us)) ≡ 0 = rw zeros (none_set q _ (N.Each1-replicate _ m 0 fails)) in
     is ∙ mask_parts n (map q us) ∙ rw (N.drop-map, rest, N.take-map) (omega arith)
 
+pub ruleset front_tests = (N.Each1-weaker, N.is_other, N.is_wide, N.is_long, none_of_first, zeros_after)
+
 -- ---- the first units
 
 first_kept : (n m : ℕ) (us : List ℕ) → length us ≡ n + m → Each1 (Fits w16) us
@@ -143,10 +145,7 @@ first_few = grind (arith, N.first_set_mask_l, N.prefix_len-le-length)
 pub pair_stops : (a b : ℕ) → a < 256 → b < 256 → not (N.top 7 (bit_or
     (bit_or (cond (N.eqb a 34) 255 0) (N.bit_xor (cond (N.leb 192 a) 255 0) (cond (ltb ((a + 62) % 256) 30) 255 0)))
     (N.bit_xor (cond (ltb ((a + 62) % 256) 30) 255 0) (cond (ltb ((b + 128) % 256) 64) 255 0)))) ≡ N.is_joined (a, b)
-pair_stops a b small little =
-    let lead : ltb ((a + 62) % 256) 30 ≡ N.is_lead a = grind arith in
-    let trail : ltb ((b + 128) % 256) 64 ≡ N.is_trail b = grind arith in
-    grind arith
+pair_stops = grind (arith, N.common_steps, N.is_lead, N.is_trail)
 
 module _ (d : List ℕ) (at : ℕ) (room : at + 16 < length d) where
   pub pairs_long : length (N.pairs_at at d) ≡ 16
@@ -195,7 +194,7 @@ module _ (xs ys : List ℕ) (long : length xs ≡ 8) (long' : length ys ≡ 8) w
   both_long = grind (arith, N.length-zip2)
 
   both_fit : (k : ℕ) → Each1 (λ u. u < 2 ^ k) xs → Each1 (λ u. u < 2 ^ k) ys → Each1 (λ u. u < 2 ^ k) (zip2 bit_or xs ys)
-  both_fit k first second = N.Each1-zip2 bit_or _ xs ys (N.Each2-of (λ u. u < 2 ^ k) (λ u. u < 2 ^ k) _ (N.or_lt k) xs ys first second)
+  both_fit = grind (arith, N.common_steps, N.Each1-zip2, bit_or, N.Each2-of, N.or_lt)
 
   pub both_small : Each1 (Fits w16) xs → Each1 (Fits w16) ys → fold_l bit_or 0 (zip2 bit_and (zip2 bit_or xs ys) (replicate 8 65408)) ≡ 0
       → Each1 (λ u. u < 128) xs × Each1 (λ u. u < 128) ys
@@ -211,10 +210,7 @@ module _ (xs ys : List ℕ) (long : length xs ≡ 8) (long' : length ys ≡ 8) w
 -- a mask of quotes has no bits just where there are none
 pub no_quotes : (bytes : List ℕ) {mask : ℕ} → mask ≡ mask_l (map (λ b. not (N.is_unquoted b)) bytes)
     → (N.nat_eq mask 0 ≡ true) ↔ Each1 (λ b. N.is_unquoted b ≡ true) bytes
-no_quotes bytes is = (
-  λ none. N.Each1-weaker _ _ (grind arith) bytes (none_passes (λ b. not (N.is_unquoted b)) bytes (grind arith)),
-  λ each. let none = none_set (λ b. not (N.is_unquoted b)) bytes (N.Each1-weaker _ _ (grind arith) bytes each) in grind arith,
-)
+no_quotes = grind (arith, N.common_steps, N.Each1-weaker, none_passes, N.is_unquoted, none_set)
 
 -- two masks that have no bit together have none
 pub no_bits : (a b : ℕ) → N.nat_eq (bit_or a b) 0 ≡ true → (N.nat_eq a 0 ≡ true) × (N.nat_eq b 0 ≡ true)

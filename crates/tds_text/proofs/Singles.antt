@@ -1,7 +1,6 @@
 -- Data whose bytes each stand alone, put a run after the other.
 use Rattle.tds_text.proofs as N
-use N.{ArePlain, List, UPPER, arith, chunk, drop, get_or, is_plain, prefix_len, refl, suc, take, true, ℕ, [], ◌%◌, ◌++◌, ◌+◌, ◌-◌, ◌/◌, ◌<◌, ◌∙◌, ◌∷◌, ◌≡◌}
-use N.{◌≤◌}
+use N.{ArePlain, List, UPPER, arith, chunk, drop, get_or, is_plain, prefix_len, refl, suc, take, true, ℕ, [], ◌%◌, ◌++◌, ◌+◌, ◌-◌, ◌/◌, ◌<◌, ◌∙◌, ◌∷◌, ◌≡◌, ◌≤◌}
 use N.Characters.{front_written, of_one}
 use Rattle.std.specs.Char.{encode_utf8}
 use Rattle.tds_text.specs.Windows1252 as windows_1252
@@ -76,6 +75,8 @@ pub plain_text : (bytes : List ℕ) → ArePlain bytes → windows_1252.text byt
 plain_text [] plain = refl
 plain_text (b ∷ bytes) plain = N.SingleLaws.windows_1252-append (b ∷ []) bytes ∙ N.ap₂ (λ x y. x ++ y) (plain_itself b plain.0) (plain_text bytes plain.1)
 
+pub ruleset windows_1252_runs = (N.SingleLaws.windows_1252-append, N.take_more, N.take-add, plain_text)
+
 -- those that were found among the next 32
 pub wide_lanes : (bytes : List ℕ) (at n : ℕ) → n ≤ 32 → n ≡ prefix_len is_plain (chunk at 32 bytes)
     → take n (chunk at 32 bytes) ≡ windows_1252.text (take n (drop at bytes))
@@ -122,3 +123,5 @@ plain_both (b ∷ xs) ys first second = (first.0, plain_both xs ys first.1 secon
 pub unquoted_lanes : (w : ℕ) (bytes : List ℕ) (at n : ℕ) → n ≤ w → n ≡ prefix_len N.is_unquoted (chunk at w bytes)
     → take n (chunk at w bytes) ≡ N.doubled (take n (drop at bytes))
 unquoted_lanes = lanes_itself N.JoiningLemmas.doubled_bytewise N.is_unquoted (grind arith)
+
+pub ruleset plain_runs = (N.LaneMasks.run_most, N.LaneMasks.front_alike, plain_among, N.length-chunk)

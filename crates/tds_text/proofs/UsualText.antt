@@ -1,6 +1,7 @@
 -- Text in UTF-8 that is judged while it is converted, a run after the other.
 use Rattle.tds_text.proofs as N
-use N.{List, arith, drop, get_or, length, sym, take, ℕ, [], ◌*◌, ◌++◌, ◌+◌, ◌-◌, ◌<◌, ◌↔◌, ◌∙◌, ◌∷◌, ◌≡◌, ◌≤◌}
+use N.{List, arith, drop, get_or, length, sym, take, ℕ, [], ◌*◌, ◌++◌, ◌+◌, ◌-◌, ◌<◌, ◌↔◌, ◌∷◌, ◌≡◌, ◌≤◌}
+use N.JoiningLemmas.{doubled_bytewise, emits}
 use Rattle.tds_text.specs.Utf8.{Begins, rest, text}
 use Rattle.tds_text.specs.Utf8Scan.{AreUnquoted, Converts, ConvertsBegun, IsScan}
 
@@ -19,14 +20,13 @@ module _ {bytes old new : List ℕ} {at made : ℕ} (before : Converts bytes old
     within = next.within;
     room = grind arith;
     whole = rw (N.take-add at n bytes) (N.IsUtf8-append _ _ before.whole next.whole);
-    text = N.Singles.itself_taken N.JoiningLemmas.doubled_bytewise bytes at n written next.unquoted before.text;
+    text = N.Singles.itself_taken doubled_bytewise bytes at n written next.unquoted before.text;
   }
 
   -- so were bytes of ASCII
   pub added_plain : (n : ℕ) → at + n ≤ length bytes → take (made + n) new ≡ take made old ++ take n (drop at bytes)
       → N.ArePlain (take n (drop at bytes)) → Converts bytes new (at + n) (made + n)
-  added_plain n within written plain =
-      added written (record { within = within; whole = N.Singles.plain_utf8 _ plain; unquoted = N.Singles.plain_doubled _ plain })
+  added_plain = grind (arith, N.common_steps, added, N.Singles.plain_utf8, N.Singles.plain_doubled)
 
   -- a byte of ASCII was added, twice if it is a quote
   pub added_one : {end : ℕ} → at < length bytes → get_or bytes at 0 < 128 → end ≤ made + 2
@@ -35,7 +35,7 @@ module _ {bytes old new : List ℕ} {at made : ℕ} (before : Converts bytes old
     within = omega arith;
     room = grind arith;
     whole = rw (N.take_more bytes at 0 within) (N.IsUtf8-append _ _ before.whole (N.Singles.one_utf8 _ ascii));
-    text = N.Singles.one_taken N.JoiningLemmas.doubled_bytewise bytes at within written before.text;
+    text = N.Singles.one_taken doubled_bytewise bytes at within written before.text;
   }
 
 -- ---- what follows whole characters
@@ -45,10 +45,10 @@ module _ (a b : List ℕ) (whole : N.IsUtf8 a) where
   none_left = grind (arith, N.utf8_valid_len-IsUtf8, N.drop_of_length-le)
 
   whole_emits : N.emit rest text (a ++ b) ≡ text a ++ N.emit rest text b
-  whole_emits = grind (arith, N.JoiningLemmas.emits N.Utf8Laws.fronts, none_left, N.take_all)
+  whole_emits = grind (arith, emits N.Utf8Laws.fronts, none_left, N.take_all)
 
   whole_keeps : rest (a ++ b) ≡ rest b
-  whole_keeps = N.Utf8Laws.rest-append a b ∙ N.ap (λ l. rest (l ++ b)) none_left
+  whole_keeps = grind (arith, N.Utf8Laws.rest-append, none_left)
 
   whole_begins : Begins (a ++ b) ↔ Begins b
   whole_begins = (λ h. rw none_left at (N.Utf8Laws.joins_utf8.inward a b h), λ h. N.Utf8Laws.joins_utf8.outward a b (rw none_left h))
@@ -56,14 +56,7 @@ module _ (a b : List ℕ) (whole : N.IsUtf8 a) where
 module _ {bytes to : List ℕ} (used made : ℕ) (x : Converts bytes to used made) where
   -- all of it was converted
   pub begun_whole : used ≡ length bytes → ConvertsBegun bytes to used made
-  begun_whole all = record {
-    begun = ([], grind (arith, N.take_all, N.append-nil, x.whole));
-    within = x.within;
-    left = omega arith;
-    short = omega arith;
-    text = grind (arith, N.take_all, N.utf8_valid_len-IsUtf8, N.drop_of_length-le);
-    keeps = grind (arith, N.take_all, N.utf8_valid_len-IsUtf8, N.drop_of_length-le);
-  }
+  begun_whole = grind (arith, N.common_steps, N.take_all, N.append-nil, N.utf8_valid_len-IsUtf8, N.drop_of_length-le)
 
 -- what is left after some of the bytes
 pub rest_of : (bytes : List ℕ) (at : ℕ) → take (length bytes - at) (drop at bytes) ≡ drop at bytes

@@ -1,7 +1,7 @@
 -- One character after the other of text in UTF-16.
 use Rattle.tds_text.proofs as N
-use N.{IsNext, Leads, List, arith, drop, emit, false, get_or, length, seam, take, true, unwrap_or, ℕ, [], ◌%◌, ◌&&◌, ◌*◌, ◌++◌, ◌+◌, ◌-◌, ◌<◌, ◌||◌, ◌∙◌, ◌∷◌}
-use N.{◌≡◌, ◌≤◌, ◌⊎◌}
+use N.{IsNext, Leads, List, arith, drop, emit, false, get_or, length, seam, take, true, unwrap_or, ℕ, [], ◌%◌, ◌&&◌, ◌*◌, ◌++◌, ◌+◌, ◌-◌, ◌<◌, ◌∷◌, ◌≡◌, ◌≤◌}
+use N.{◌⊎◌}
 use N.Utf16Laws.{front, front_step, fronts, joins_utf16, short, starts_low}
 use Rattle.std.specs.Char.Utf16.{utf16_chars}
 use Rattle.tds_text.specs.Utf16.{characters, is_high, rest, text, units}
@@ -131,8 +131,7 @@ whole_leads {bytes} {more} leads whole even =
 
 -- and ends where nothing is
 pub all_led : {bytes more out : List ℕ} → Leads rest text bytes more out → length bytes % 2 ≡ 0 → length more ≡ 0 → out ≡ text bytes
-all_led {more = more} leads whole none =
-    rw (whole_leads leads whole (omega arith), N.nil_from_length more none, text_nil, N.append-nil)
+all_led = grind (arith, N.common_steps, whole_leads, N.nil_from_length, text_nil, N.append-nil)
 
 -- ---- withheld bytes of text in UTF-16, with the first ones of a piece
 

@@ -1,8 +1,8 @@
 -- The laws of UTF-8 in pieces.
 use Rattle.tds_text.proofs as N
-use N.{Bool, IsUtf8, List, None, Some, ap, arith, cond, encode_utf8, false, get_or, inl, inr, is_utf8, length, refl, second_byte_max, second_byte_min, suc}
-use N.{take, true, ℕ, [], ⊎_elim, ◌*◌, ◌++◌, ◌+◌, ◌-◌, ◌<◌, ◌∙◌, ◌∷◌, ◌≡◌, ◌≤◌, ◌⊎◌}
-use N.JoiningLemmas.{HasFronts, doubled-append, emit-front, emits, ends, settled_front}
+use N.{Bool, IsUtf8, List, None, Some, ap, arith, cond, encode_utf8, false, get_or, inl, inr, length, refl, second_byte_max, second_byte_min, suc, take, true}
+use N.{ℕ, [], ◌*◌, ◌++◌, ◌+◌, ◌-◌, ◌<◌, ◌∙◌, ◌∷◌, ◌≡◌, ◌≤◌, ◌⊎◌}
+use N.JoiningLemmas.{HasFronts, emit-front, emits, ends, settled_front}
 use Rattle.std.specs.Str.Lossy.{utf8_error_len, utf8_valid_len}
 use Rattle.tds_text.specs.Utf8.{Begins, IsFit, rest, text}
 
@@ -15,7 +15,7 @@ longest_up_to : (bs : List ℕ) (n m : ℕ) → N.valid_len_up_to bs n < m → m
 longest_up_to bs N.zero m below within u = omega arith
 longest_up_to bs (suc n) m below within u =
     let passed = N.is_utf8-from_IsUtf8 (take m bs) u in
-    N.cond_both _ (suc n) _ (λ k. k < m → ⊥) (λ _. omega arith) (λ (refused : is_utf8 (take (suc n) bs) ≡ false) less. elim (N.cases_lt m (suc n)) [
+    N.cond_both _ (suc n) _ (λ k. k < m → ⊥) (λ _. omega arith) (λ (refused : N.is_utf8 (take (suc n) bs) ≡ false) less. elim (N.cases_lt m (suc n)) [
       | inl before ↦ longest_up_to bs n m less (omega arith) u
       | inr whole ↦ let same : m ≡ suc n = omega arith in cc
     ]) below
@@ -77,12 +77,7 @@ pub rest-append : (a b : List ℕ) → rest (a ++ b) ≡ rest (rest a ++ b)
 rest-append = grind (arith, valid_len-append, regrouped, N.drop-append-add)
 
 pub fronts : HasFronts rest text front
-fronts = record {
-  whole = front-rest;
-  front_is = front-append;
-  more = λ a b. doubled-append (front a) (front (rest a ++ b));
-  last = λ a. doubled-append (front a) (rest a);
-}
+fronts = grind (arith, N.common_steps, front-rest, front_is, front-append, N.JoiningLemmas.doubled-append, front)
 
 -- the first bytes, the whole characters among them
 take-front : (bytes : List ℕ) (n : ℕ) → take (utf8_valid_len bytes + n) bytes ≡ front bytes ++ take n (rest bytes)
@@ -157,7 +152,7 @@ front_none : (c : ℕ) (r more tail : List ℕ) → N.Scalar c → N.Shape c →
 unfolding utf8_error_len
 front_none c [] more tail k s e short = refl
 front_none c (x ∷ []) more tail k s e short = grind (arith, N.length-encode, four)
-front_none c (x ∷ y ∷ []) more tail k s e short = grind (arith, N.length-encode, four, ⊎_elim, N.nat_tests)
+front_none c (x ∷ y ∷ []) more tail k s e short = grind (arith, N.length-encode, four, N.⊎_elim, N.nat_tests)
 front_none c (x ∷ y ∷ z ∷ []) more tail k s e short = grind (arith, N.length-encode, four, N.nat_tests)
 front_none c (x ∷ y ∷ z ∷ v ∷ r) more tail k s e short = grind (arith, N.length-encode)
 
@@ -289,3 +284,5 @@ pub stops_at : (bytes : List ℕ) (whole k good : ℕ) → whole ≡ utf8_valid_
     → good ≡ cond (is_first (get_or bytes whole 0)) k 0 → N.StopsAt bytes whole (whole + good)
 stops_at bytes whole k good is e found =
     rw (found, ← (N.get_or-drop whole bytes 0 0 ∙ ap (λ n. get_or bytes n 0) {x = whole + 0} {y = whole} (omega arith)), is) (stops bytes k (rw is at e))
+
+pub ruleset scan_laws = (none_begins, N.length-drop, N.utf8_valid_len-IsUtf8)

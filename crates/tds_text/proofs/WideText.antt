@@ -1,7 +1,7 @@
 -- The text of units that are characters of at most three bytes.
 use Rattle.tds_text.proofs as N
 use N.{Bool, Each1, Fits, List, arith, chunk, count_ones, drop, evens, false, flat_map, get_or, is_long, is_wide, length, map, mask_l, quad_bytes, refl, suc}
-use N.{take, triples, true, units_text, w16, zero, ℕ, [], ◌%◌, ◌*◌, ◌++◌, ◌+◌, ◌-◌, ◌/◌, ◌<◌, ◌^◌, ◌↔◌, ◌∙◌, ◌∷◌, ◌≡◌, ◌≤◌}
+use N.{take, triples, true, units_text, w16, zero, ℕ, [], ◌%◌, ◌*◌, ◌++◌, ◌+◌, ◌-◌, ◌/◌, ◌<◌, ◌↔◌, ◌∙◌, ◌∷◌, ◌≡◌, ◌≤◌}
 use N.Characters.{doubled_character, of_one, of_three, of_two}
 use N.JoiningLemmas.{Leads-none, Leads-trans}
 use N.Lookup.{IsRow, bits, lowest_bit, placed}
@@ -99,6 +99,8 @@ quads_taken us more {wide} {long} few small small' is wide_is long_is range =
     rw (← (N.Lookup.ones_of_two wide long small small').0) at (row_taken 4 4 quad_bytes N.Lookup.quad_places us more
     (N.Lookup.quad_row wide long small small') few is wide_is long_is range
     (N.Each1-weaker _ _ (λ u low. record { wide = refl; inside = grind arith; text = grind (arith, of_one, of_two, of_three, doubled_character) }) us range))
+
+pub ruleset unit_tests = (N.LaneMasks.zeros_after, is_wide, is_long, N.Each1-weaker, each_taken)
 
 take_both : (n m : ℕ) (us : List ℕ) → take n (take m us) ≡ take m (take n us)
 take_both = grind (arith, N.cases_lt, N.take-take, N.take_all, N.length-take)
@@ -240,7 +242,7 @@ leads_front k ys more few each = grind arith
 
 -- two loads after one another are one
 pub two_chunks : (n m at : ℕ) (bytes : List ℕ) → chunk at n bytes ++ chunk (at + n) m bytes ≡ chunk at (n + m) bytes
-two_chunks n m at bytes = rw (N.take-add n m (drop at bytes), N.drop-drop n at bytes)
+two_chunks = grind (arith, N.common_steps, N.take-add, N.drop-drop)
 
 -- all the bytes are a source of their own
 pub lies_itself : (bytes : List ℕ) → N.LiesIn bytes bytes
@@ -248,7 +250,7 @@ lies_itself = grind (arith, N.common_steps)
 
 -- before the first unit nothing was
 pub none_converted : (bytes to : List ℕ) → N.Converts bytes to 0 0
-none_converted bytes to = record { within = omega arith; room = omega arith; leads = Leads-none }
+none_converted = grind (arith, N.common_steps)
 
 -- so many units of a source that begins with the bytes were converted after what was before
 pub units_more : {bytes source old new : List ℕ} {at made after n : ℕ} (w : ℕ) → N.LiesIn bytes source → at + 2 * w ≤ length source → n ≤ w

@@ -153,6 +153,7 @@ fn put_triples(to: &mut [u8], at: usize, units: u16x8, n: usize)
 // Writes the text of the first `n` of eight characters, some of them long, and returns its end. Only zeros come after these.
 // Writes none if one of them is a surrogate.
 #[inline(always)]
+#[tactic(auto, using(crate::proofs::LaneMasks::front_tests))]
 fn put_longs(to: &mut [u8], at: usize, units: u16x8, n: usize) -> Option<usize>
     requires most { n ≤ UNITS }
     requires zeros { drop n units ≡ replicate (UNITS - n) 0 }
@@ -171,6 +172,7 @@ fn put_longs(to: &mut [u8], at: usize, units: u16x8, n: usize) -> Option<usize>
 
 // Writes the text of the first `n` of eight units, and returns its end. Writes none if one of them is a surrogate.
 #[inline(always)]
+#[tactic(auto, using(crate::proofs::WideText::unit_tests, std::proofs::lemmas::Grind::common_steps))]
 pub(crate) fn put_units(to: &mut [u8], at: usize, lanes: u8x16, n: usize) -> Option<usize>
     requires most { n ≤ UNITS }
     requires room { at + 3 * n + LANES ≤ length to.old }

@@ -41,6 +41,7 @@ fn take_wide(bytes: &[u8], at: usize, to: &mut [u8], made: usize) -> usize
 
 // Writes the bytes with their quotes doubled, as long as 32 of them are left and there is room for more.
 #[inline(never)]
+#[tactic(auto, using(crate::proofs::JoiningLemmas::doubled_runs, std::proofs::lemmas::Grind::common_steps))]
 pub(crate) fn convert_wide(bytes: &[u8], to: &mut [u8]) -> Span
     ensures within { result.used ≤ length bytes.now }
     ensures fits { result.made ≤ length to.new }
@@ -84,6 +85,7 @@ fn convert_front(bytes: &[u8], to: &mut [u8]) -> Span
 
 // Goes on with the bytes, their quotes doubled, and returns how many they are then.
 #[inline(always)]
+#[tactic(auto, using(crate::proofs::JoiningLemmas::doubled_runs, std::proofs::lemmas::Grind::common_steps))]
 fn convert_rest(bytes: &[u8], after: Span, to: &mut [u8]) -> usize
     requires within { after.used ≤ length bytes.now }
     requires room { after.made + 2 * (length bytes.now - after.used) + LANES ≤ length to.old }

@@ -95,6 +95,7 @@ pub(crate) fn put_lanes<const N: usize>(to: &mut [u8], at: usize, lanes: Simd<u8
 // Writes the next bytes of ASCII up to a quote, at most `N`, to a place, and returns how many. The source begins with the
 // bytes, and what follows them may be looked at too.
 #[inline(always)]
+#[tactic(auto, using(crate::proofs::Singles::plain_runs))]
 pub(crate) fn take_plain<const N: usize>(
     bytes: &[u8],
     source: &[u8],

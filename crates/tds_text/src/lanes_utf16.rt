@@ -78,6 +78,7 @@ pub(crate) fn are_plain(units: u16x8) -> bool
 
 // Whether each of eight units and eight others is a character of ASCII.
 #[inline(always)]
+#[tactic(auto, using(crate::proofs::LaneMasks::both_small, crate::proofs::LaneMasks::no_high))]
 fn are_ascii(first: u16x8, second: u16x8) -> bool
     ensures small { result ≡ true → Each1 (λ u. u < 128) first × Each1 (λ u. u < 128) second }
     ensures other { result ≡ false → Each1 (λ u. u < 128) first → Each1 (λ u. u < 128) second → ⊥ }

@@ -70,6 +70,7 @@ fn begins_two(byte: u8) -> bool
 
 // How many of the next 16 bytes are whole characters of one or two bytes, and no quotes.
 #[inline(always)]
+#[tactic(auto, using(crate::proofs::LaneMasks::pairs_most, crate::proofs::JoinedText::run_text, crate::proofs::JoinedText::run_text_before))]
 fn joined_characters(bytes: &[u8], source: &[u8], at: usize) -> usize
     requires { LiesAhead bytes.now source.now at (LANES + 1) }
     ensures most { result ≤ LANES }

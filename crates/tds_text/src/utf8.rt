@@ -34,7 +34,7 @@ fn good_of(first: u8, len: usize) -> usize
 }
 
 /// How many of the first bytes are whole characters, and how many begin a text.
-#[tactic(auto, using(crate::proofs::Utf8Laws::none_begins))]
+#[tactic(auto, using(crate::proofs::Utf8Laws::scan_laws, std::proofs::lemmas::Grind::common_steps))]
 pub fn scan_text(bytes: &[u8]) -> Scan
     ensures text { emit utf8.rest utf8.text bytes.now ≡ doubled (take result.whole bytes.now) }
     ensures scan { IsScan bytes.now result.whole result.good }
@@ -70,6 +70,7 @@ fn convert_front(bytes: &[u8], source: &[u8], to: &mut [u8]) -> Span
 
 // Writes the text of bytes, all of which are judged first, and returns its length. `None` if they are no text.
 #[inline(never)]
+#[tactic(auto, using(crate::proofs::ConversionLaws::utf8_tests, std::proofs::lemmas::Grind::common_steps))]
 fn convert_judged(bytes: &[u8], to: &mut [u8]) -> Option<usize>
     requires room { 2 * length bytes.now + LANES ≤ length to.old }
     ensures fit { is_some result ≡ is_utf8 bytes.now }

@@ -108,6 +108,7 @@ fn convert_by_hand(bytes: &[u8], from: usize, end: usize, to: &mut [u8], start: 
 // Writes the text of the bytes, as long as 32 of them are left and there are 64 bytes of room. The first ones are looked at 64 at a
 // time, as long as all of them are their own text.
 #[inline(never)]
+#[tactic(auto, using(crate::proofs::Singles::windows_1252_runs, std::proofs::lemmas::Grind::common_steps))]
 pub(crate) fn convert_wide(bytes: &[u8], to: &mut [u8]) -> Span
     ensures within { result.used ≤ length bytes.now }
     ensures fits { result.made ≤ length to.new }
@@ -154,6 +155,7 @@ fn convert_front(bytes: &[u8], to: &mut [u8]) -> Span
 
 // Goes on with the text, and returns its length. What follows the bytes in the source may be looked at.
 #[inline(always)]
+#[tactic(auto, using(crate::proofs::Singles::windows_1252_runs, std::proofs::lemmas::Grind::common_steps))]
 fn convert_rest(bytes: &[u8], source: &[u8], after: Span, to: &mut [u8]) -> usize
     requires source { LiesIn bytes.now source.now }
     requires within { after.used ≤ length bytes.now }
@@ -181,6 +183,7 @@ fn convert_rest(bytes: &[u8], source: &[u8], after: Span, to: &mut [u8]) -> usiz
 // Writes the text of the first bytes, at most `N`: of those before the first that isn't its own text, and of that one. What follows the
 // bytes in the source may be looked at.
 #[inline(always)]
+#[tactic(auto, using(crate::proofs::Singles::windows_1252_runs, std::proofs::lemmas::Grind::common_steps))]
 fn convert_lanes<const N: usize>(bytes: &[u8], source: &[u8], to: &mut [u8]) -> Span
     requires few { N ≤ BLOCK }
     requires source { LiesIn bytes.now source.now }

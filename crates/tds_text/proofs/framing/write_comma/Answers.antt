@@ -6,4 +6,4 @@ comma_text column [] text h some = grind N.arith
 comma_text column (x ∷ xs) text h some = N.sym (grind N.arith)
 
 pub returns-clause-text : N.framing.write_comma.Goals.returns-clause-text
-returns-clause-text c = λ text. comma_text _ _ text c.if-column-eq0.false c.requires
+returns-clause-text = grind (N.arith, comma_text)

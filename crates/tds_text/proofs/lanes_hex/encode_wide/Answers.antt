@@ -14,4 +14,4 @@ two_steps bytes first second third at before one two =
     rw end at (rw all at (N.Singles.text_taken N.SingleLaws.hex_bytewise bytes (at + 32) 32 two (rw half at more)))
 
 pub loop-at-preserved : N.lanes_hex.encode_wide.Goals.loop-at-preserved
-loop-at-preserved c = record { within = omega arith; room = search N.rules; digits = grind (arith, two_steps) }
+loop-at-preserved = grind (arith, two_steps)

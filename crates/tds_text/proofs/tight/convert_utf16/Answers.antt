@@ -1,7 +1,7 @@
 use Rattle.tds_text.proofs as N
-use N.{arith, take, ℕ, ◌%◌, ◌*◌, ◌++◌, ◌+◌, ◌-◌, ◌/◌, ◌∙◌, ◌≡◌, ◌≤◌}
-use N.WideText.{lies_itself, units_more}
 use N.tight.convert_utf16.Goals as goal
+use N.{arith, ℕ, ◌%◌, ◌*◌, ◌++◌, ◌+◌, ◌-◌, ◌/◌, ◌≡◌, ◌≤◌}
+use N.WideText.{lies_itself, units_more}
 
 pub convert_ascii-plain-requires : goal.convert_ascii-plain-requires
 convert_ascii-plain-requires c =
@@ -19,15 +19,8 @@ convert_ascii-plain-requires c =
     }
 
 -- a text and more after it
-take_put : (a k n : ℕ) (xs ys : N.List ℕ) → a ≤ N.length xs → n ≤ N.length ys → take a xs ++ take n ys ≡ take (a + n) (N.put_mid a k xs ys)
+take_put : (a k n : ℕ) (xs ys : N.List ℕ) → a ≤ N.length xs → n ≤ N.length ys → N.take a xs ++ N.take n ys ≡ N.take (a + n) (N.put_mid a k xs ys)
 take_put a k n xs ys within few = grind (arith, N.length-take-le, N.take-append-add, N.take-append-le)
 
 pub returns-clause-text : goal.returns-clause-text
-returns-clause-text c =
-    let run = c.convert_mixed-run in
-    let to = run.new.to in
-    let more = rw (N.UsualText.rest_of) at c.convert_whole.ensures.text in
-    let all = N.Utf16Steps.whole_leads run.ensures.gives.after.leads c.requires.whole
-    (omega (arith, N.length-drop run.result.used c.args.bytes.now)) in
-    let joined = take_put run.result.made (N.length to - run.result.made) _ to _ (omega arith) (omega arith) in
-    N.sym joined ∙ N.ap (λ l. take run.result.made to ++ l) more ∙ N.sym all
+returns-clause-text = grind (arith, N.UsualText.rest_of, N.Utf16Steps.whole_leads, N.length-drop, take_put)

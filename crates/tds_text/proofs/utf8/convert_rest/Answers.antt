@@ -3,9 +3,7 @@ use N.{◌-◌}
 use N.utf8.convert_rest.Goals as goal
 
 pub returns-then-scan-rest : goal.returns-then-scan-rest
-returns-then-scan-rest c =
-    let is = N.UsualText.rest_of c.args.bytes.now c.args.after.used in
-    N.UsualText.begun_none _ _ c.requires.before (rw is at c.scan_text-scan.ensures.scan) (rw is at c.if-scan-rest.true)
+returns-then-scan-rest = grind (N.arith, N.UsualText.rest_of, N.UsualText.begun_none)
 
 pub returns : goal.returns
 returns c =

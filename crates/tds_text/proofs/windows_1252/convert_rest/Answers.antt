@@ -1,10 +1,6 @@
 use Rattle.tds_text.proofs as N
-use N.windows_1252.convert_rest.Goals as goal
 
-pub loop-at-preserved-then-n-eq-LANES : goal.loop-at-preserved-then-n-eq-LANES
-loop-at-preserved-then-n-eq-LANES = grind (N.arith, N.common_steps, N.SingleLaws.windows_1252-append, N.take-add, N.Singles.plain_text)
-
-pub loop-at-preserved : goal.loop-at-preserved
+pub loop-at-preserved : N.windows_1252.convert_rest.Goals.loop-at-preserved
 loop-at-preserved c = record {
   from = omega N.arith;
   within = omega N.arith;
