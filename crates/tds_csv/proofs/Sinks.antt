@@ -3,9 +3,6 @@ use Rattle.tds_csv.proofs as N
 use N.{◌≡◌, ℕ, ◌+◌, ◌-◌, ◌^◌, ◌<◌, ◌≤◌, List, [], ◌++◌, length, arith, Stop, SinkView, Adds, Puts, WritesPrefix}
 use Rattle.tds_packet.proofs.Joins.{Stays-Rises, Stays-none, Stays-trans}
 
-pub counted-none : (n : ℕ) → n ≤ 2 ^ 64 - 1 → n ≡ N.counted n 0
-counted-none = omega arith
-
 pub counted-twice : (n k l : ℕ) → N.counted (N.counted n k) l ≡ N.counted n (k + l)
 counted-twice = omega arith
 

@@ -59,7 +59,7 @@ pub front_alike : (bytes source : List ℕ) (at n w : ℕ) → N.LiesIn bytes so
 front_alike bytes source at n w lies few within =
     let k = length bytes - at in
     let all : at + k ≡ length bytes = omega arith in
-    rw (← lies.front, ← all, N.drop-take at k source, N.take-take n k (drop at source) (omega arith), N.take-take n w (drop at source) few)
+    grind (arith, N.drop-take, N.take-take)
 
 -- so many lanes have a small mask
 mask_small : (k : ℕ) (ms : List Bool) → length ms ≤ k → mask_l ms < 2 ^ k

@@ -1,6 +1,6 @@
 -- The laws of the conversions in which each byte stands alone.
 use Rattle.tds_text.proofs as N
-use N.{List, arith, length, take, ℕ, ⊤, [], ◌*◌, ◌++◌, ◌+◌, ◌-◌, ◌∙◌, ◌∷◌, ◌≡◌, ◌≤◌}
+use N.{List, arith, length, take, ℕ, ⊤, [], ◌*◌, ◌++◌, ◌+◌, ◌-◌, ◌∷◌, ◌≡◌, ◌≤◌}
 use Rattle.tds_text.specs.Binary as binary
 use Rattle.tds_text.specs.Windows1252 as windows_1252
 use Rattle.hex.specs.Hex.{encode_with}
@@ -39,8 +39,7 @@ hex_padded bytes source written more m lies most within is =
     let n = length bytes in
     let split : m ≡ n + (m - n) = omega arith in
     let size = hex-length N.lower_digits (take m source) in
-    N.take-append-le (2 * n) written more (omega (arith, N.ap length is, size, N.length-take-le m source within))
-    ∙ rw (is, split) (hex-front n (m - n) source lies.within ∙ N.ap N.encode_lower lies.front)
+    grind (arith, N.take-append-le, N.length-take-le, hex-front, N.encode_lower)
 
 -- bytes as hexadecimal digits may come in pieces
 pub joins_binary : N.JoinsPieces binary.IsFit binary.IsFit binary.rest binary.text

@@ -1,6 +1,6 @@
 -- Text in UTF-8 that is judged while it is converted, a run after the other.
 use Rattle.tds_text.proofs as N
-use N.{List, arith, drop, get_or, length, sym, take, ℕ, [], ◌*◌, ◌++◌, ◌+◌, ◌-◌, ◌<◌, ◌↔◌, ◌∷◌, ◌≡◌, ◌≤◌}
+use N.{List, arith, drop, get_or, length, take, ℕ, [], ◌*◌, ◌++◌, ◌+◌, ◌-◌, ◌<◌, ◌↔◌, ◌∷◌, ◌≡◌, ◌≤◌}
 use N.JoiningLemmas.{doubled_bytewise, emits}
 use Rattle.tds_text.specs.Utf8.{Begins, rest, text}
 use Rattle.tds_text.specs.Utf8Scan.{AreUnquoted, Converts, ConvertsBegun, IsScan}
@@ -68,7 +68,7 @@ module _ {bytes to : List ℕ} (used made : ℕ) (x : Converts bytes to used mad
   begun_none scan less begun =
       let stops = scan.stops less in
       let tail = drop used bytes in
-      let inside : Begins tail = (whole_begins (take used bytes) tail x.whole).0 (rw (sym (N.take-append-drop used bytes)) at begun) in
+      let inside : Begins tail = (whole_begins (take used bytes) tail x.whole).0 (rw (N.sym (N.take-append-drop used bytes)) at begun) in
       stops.bad (N.Utf8Laws.joins_utf8.front (take (good + 1) tail) (drop (good + 1) tail) (rw N.take-append-drop inside))
 
   -- what follows was converted too
@@ -85,6 +85,6 @@ module _ {bytes to : List ℕ} (used made : ℕ) (x : Converts bytes to used mad
         within = omega arith;
         left = omega arith;
         short = omega arith;
-        text = rw (written, x.text, ← emits) (rw split at (sym (whole_emits (take used bytes) tail x.whole)));
-        keeps = rw (← N.drop-drop whole used bytes, scan.rest) (rw split at (sym (whole_keeps (take used bytes) tail x.whole)));
+        text = grind (arith, emits, whole_emits);
+        keeps = grind (arith, N.drop-drop, whole_keeps);
       }

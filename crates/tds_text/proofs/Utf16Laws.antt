@@ -1,6 +1,7 @@
 -- The laws of UTF-16 in pieces.
 use Rattle.tds_text.proofs as N
-use N.{List, arith, false, length, ℕ, [], ⊤, ◌%◌, ◌&&◌, ◌++◌, ◌∙◌, ◌∷◌, ◌≡◌, ◌≤◌}
+use N.{List, arith, false, length, ℕ, ⊤, [], ◌%◌, ◌&&◌, ◌++◌, ◌∙◌, ◌∷◌, ◌≡◌, ◌≤◌}
+use N.JoiningLemmas.{HasFronts, emits, ends}
 use Rattle.tds_text.specs.Utf16.{units, is_high, IsFit, text, rest}
 use Rattle.std.specs.Char.Utf16.{utf16_chars}
 
@@ -71,11 +72,11 @@ text-front a b h = N.ap spelled (seam a b).units_are ∙ texts (units (front a))
     texts : (us vs : List ℕ) → Apart us vs → spelled (us ++ vs) ≡ spelled us ++ spelled vs
     texts = grind (arith, chars-apart, N.map-append, N.encodes-append, N.JoiningLemmas.doubled-append)
 
-pub fronts : N.JoiningLemmas.HasFronts rest text front
+pub fronts : HasFronts rest text front
 unfolding starts_low
 fronts = record {
   whole = λ a. (seam a []).whole;
-  front_is = λ a b. (seam a b).front_is;
+  front_is = grind (arith, seam);
   more = λ a b. text-front a (front (rest a ++ b)) (Apart-front a (units (front (rest a ++ b))) (grind (arith, high_is_not_low)));
   last = λ a. text-front a (rest a) (Apart-front a (units (rest a)) (grind (arith, high_is_not_low)));
 }
@@ -90,10 +91,10 @@ parts bytes = let whole = (seam bytes []).even in omega (arith, N.ap length (sea
 -- text in UTF-16 may come in pieces
 pub joins_utf16 : N.JoinsPieces IsFit (λ _. ⊤) rest text
 joins_utf16 = record {
-  emits = λ a b _. N.JoiningLemmas.emits fronts a b;
-  keeps = λ a b _. (seam a b).rest_is;
+  emits = λ a b _. emits fronts a b;
+  keeps = grind (arith, seam);
   short = λ a _. short a;
-  ends = λ a _. N.JoiningLemmas.ends fronts a;
+  ends = λ a _. ends fronts a;
   fit_rest = λ a whole. N.sym (parts a) ∙ whole;
   fit_whole = λ a _ whole. parts a ∙ whole;
   front = λ _ _ _. tt;

@@ -225,7 +225,7 @@ plain_added ys old new kept {low = low} {at} n w few within is same none low_is 
       most = omega arith;
       written = rw (N.take-take n w low few, low_is) at (N.Characters.front_written old new _ at n w few within written)
           ∙ N.ap (λ l. take at old ++ l) (plain_texts n ys plain);
-      single = N.Each1-weaker _ _ (grind arith) _ plain;
+      single = grind (arith, N.Each1-weaker);
     }
 
 leads_unit : (low high : ℕ) (more : List ℕ) → N.is_half (low + 256 * high) ≡ false → N.Leads rest text (low ∷ high ∷ more) more (N.unit_text (low + 256 * high))

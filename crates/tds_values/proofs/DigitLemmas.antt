@@ -19,7 +19,7 @@ pub last_digits-below : (k m n : ℕ) → k ≤ m → last_digits k (n % 10 ^ m)
 last_digits-below k m n h =
     let power : 10 ^ m ≡ 10 ^ k * 10 ^ (m - k) = rw (← pow-add 10 k (m - k)) (ap (λ j. 10 ^ j) (omega arith)) in
     let whole : 10 ^ k * (10 ^ (m - k) * (n / 10 ^ m)) + n % 10 ^ m ≡ n = omega (arith, ap (λ p. p * (n / 10 ^ m)) power, N.div-add-mod n (10 ^ m)) in
-    rw (← last_digits-above k (10 ^ (m - k) * (n / 10 ^ m)) (n % 10 ^ m), whole)
+    grind (arith, last_digits-above)
 
 -- the last a + b digits are the last a of what lies above the last b, and these
 pub last_digits-add : (a b n : ℕ) → last_digits (a + b) n ≡ last_digits a (n / 10 ^ b) ++ last_digits b n
@@ -67,7 +67,7 @@ units_last top scale skipped n few fits needed small =
     let below : n / 10 ^ scale < 10 ^ suc k = N.div_below n (10 ^ scale) (10 ^ suc k) some (rw (← pow-add 10 (suc k) scale, ← all) fits) in
     let low : (k ≡ 0) ⊎ (10 ^ k ≤ n / 10 ^ scale) = N.⊎_elim (λ e. N.inl (omega arith))
     (λ h. inr (N.le-div (10 ^ k) n (10 ^ scale) some (let e : k + scale ≡ top - skipped = omega arith in rw (← pow-add 10 k scale, e) h))) needed in
-    rw width (decimal_last k (n / 10 ^ scale) low below (omega arith))
+    grind (arith, decimal_last)
 
 -- with the leading zeros of top + 1 digits, but for the last before the point
 pub decimal_units : (top scale zeros n : ℕ) → scale ≤ top → n < 10 ^ 64 → zeros ≤ top → n < 10 ^ (suc top - zeros) → (zeros ≡ top) ⊎ (10 ^ (top - zeros) ≤ n)
@@ -82,7 +82,6 @@ decimal_above scale n few many fits =
     let all : (8 - scale) + scale ≡ 8 = omega arith in
     let power : 10 ^ (8 - scale) * 10 ^ scale ≡ 100000000 = rw (← pow-add 10 (8 - scale) scale, all) N.refl in
     let whole : n / 10 ^ scale / 10 ^ (8 - scale) ≡ n / 100000000 = grind (arith, (N.div-div-eq-div-mul n (10 ^ scale) (10 ^ (8 - scale)))) in
-    let low : 10 ^ (8 - scale) ≤ n / 10 ^ scale = N.le-div (10 ^ (8 - scale)) n (10 ^ scale) some (omega (arith, power)) in
     let parts : n % 100000000 + 10 ^ scale * (10 ^ (8 - scale) * (n / 100000000)) ≡ n =
     omega (arith, ap (λ p. p * (n / 100000000)) power) in
     let above : n / 10 ^ scale ≡ 10 ^ (8 - scale) * (n / 100000000) + n % 100000000 / 10 ^ scale =
@@ -91,4 +90,4 @@ decimal_above scale n few many fits =
     let longer : 64 ≤ 64 + scale = omega arith in
     let more : 10 ^ 64 ≤ 10 ^ (64 + scale) = N.pow-le-pow_right {n = 10} (omega arith) longer in
     let small : n / 10 ^ scale < 10 ^ 64 = N.div_below n (10 ^ scale) (10 ^ 64) some (rw (← pow-add 10 64 scale) (omega arith)) in
-    rw (← whole, ← last, ← above) (decimal_split (8 - scale) (n / 10 ^ scale) low small)
+    grind (arith, decimal_split)

@@ -37,9 +37,8 @@ fraction-above scale x f = let turned : x * 10 ^ scale ≡ 10 ^ scale * x = omeg
 
 day_parts : (p l f : ℕ) → f < p → ((l * p + f) / (86400 * p) ≡ l / 86400) × ((l * p + f) % (86400 * p) ≡ l % 86400 * p + f)
 day_parts p l f small =
-    let short : l % 86400 * p + f < 86400 * p = more p 86400 (l % 86400) f small (omega arith) in
     let whole : l * p + f ≡ l / 86400 * (86400 * p) + (l % 86400 * p + f) = omega (arith, N.ap (λ k. k * p) (N.div-add-mod l 86400)) in
-    rw whole (N.div-mul-add (l / 86400) (86400 * p) (l % 86400 * p + f) short, N.mod-mul-add (l / 86400) (86400 * p) (l % 86400 * p + f) short)
+    grind (arith, N.div-mul-add, N.mod-mul-add)
 
 -- so its text is that of the seconds and the fraction
 pub text_of_seconds : (scale l units : ℕ)
@@ -47,10 +46,4 @@ pub text_of_seconds : (scale l units : ℕ)
 text_of_seconds scale l units =
     let small = N.mod_below units (10 ^ scale) (N.one-le-pow scale 10 (omega arith)) in
     let p = day_parts (10 ^ scale) l (units % 10 ^ scale) small in
-    rw (
-      p.0,
-      p.1,
-      N.div-mul-add (l % 86400) (10 ^ scale) (units % 10 ^ scale) small,
-      fraction-above scale (l % 86400) (units % 10 ^ scale),
-      N.DigitLemmas.last_digits-mod scale units,
-    )
+    grind (arith, N.div-mul-add, fraction-above, N.DigitLemmas.last_digits-mod)

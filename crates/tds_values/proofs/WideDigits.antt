@@ -14,7 +14,7 @@ digits_from xs new ds at s m long few more e =
     let forty : s + (40 - s) ≡ 40 = omega arith in
     let digits = rw forty at (drop-take s (40 - s) ds) in
     let put = N.take-append-add xs (take m (drop s ds)) (40 - s) in
-    cc (N.take-take (at + (40 - s)) (at + m) new (omega arith), put, N.take-take (40 - s) m (drop s ds) more, digits)
+    grind (arith, N.take-take)
 
 -- the digits above the last k, of which a group has eight, and that group
 group_after : (a k n g : ℕ) {front : List ℕ} → g ≡ n / 10 ^ k % 10 ^ 8 → front ≡ last_digits a (n / 10 ^ (k + 8))
@@ -53,4 +53,4 @@ whole_joined negative n scale zeros at new t {xs} ed ex long fits few leading_ze
     let digits = rw rest at (N.WordLemmas.end_digits 40 (40 - first) n (omega arith)) in
     let end : at + (40 - first) - scale ≡ at + k = omega arith in
     let whole = N.DigitLemmas.decimal_units 39 scale zeros n (omega arith) (omega arith) leading_zeros.0 leading_zeros.1.0 leading_zeros.1.1 in
-    rw (end, whole, ← ex) (N.WordLemmas.front_put xs new at k scale (40 - first) n long (omega arith) (rw (ed, digits) at is))
+    grind (arith, N.WordLemmas.front_put)

@@ -60,7 +60,7 @@ pub digits_left : (j k m n : ℕ) {w : ℕ} → m ≡ j + k → w ≡ word_of (l
 digits_left j k m n {w} em ew =
     let rest : m - k ≡ j = omega arith in
     let bytes = rw (length-last_digits m n) at (bytes_of-word_of (last_digits m n) (digits_are_bytes m n)) in
-    rw (whole_word m w, ew, bytes, ← rest) (end_digits m k n (omega arith))
+    grind (arith, whole_word, end_digits)
 
 -- the same, shifted past the first j
 pub last_put : (xs new : List ℕ) (at j k m n : ℕ) → N.length xs ≡ at → m ≡ j + k

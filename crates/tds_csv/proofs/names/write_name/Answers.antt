@@ -11,6 +11,4 @@ in_place column start made first new rest text there within is comma =
     front ∙ rw (N.take-append-le made new rest within, is) (comma text)
 
 pub returns-clause-text : N.names.write_name.Goals.returns-clause-text
-returns-clause-text c = c.write_line_end.ensures.text
-    ∙ N.ap (λ t. t ++ end_after c.args.last) (in_place c.args.column c.write_comma-start.result c.write_units-made.result c.write_comma-start.new.to
-    c.write_units-made.new.to _ _ (omega N.arith) (omega N.arith) c.write_units-made.ensures.field c.write_comma-start.ensures.text)
+returns-clause-text = grind (N.arith, in_place)

@@ -1,24 +1,22 @@
 use Rattle.tds_values.proofs as N
 use N.lanes.hex_lanes.Goals as goal
-use N.{◌%◌, ◌/◌, ◌∙◌}
+use N.{arith, ◌%◌, ◌/◌, ◌∙◌}
 
 pub nonzero_div-bytes : goal.nonzero_div-bytes
-nonzero_div-bytes c = N.Each2-splat _ c.args.bytes 16 16 (N.Each1-all _ (λ x. omega N.arith) c.args.bytes)
+nonzero_div-bytes c = N.Each2-splat _ c.args.bytes 16 16 (N.Each1-all _ (λ x. omega arith) c.args.bytes)
 
 pub digits-high-requires : goal.digits-high-requires
 digits-high-requires c = rw (N.zip2_splat ◌/◌ c.args.bytes 16 16 c.requires) (record {
-  few = N.length-map c.args.bytes _
-      ∙ c.requires;
-  small = N.LaneLemmas.high_small c.args.bytes c.fits-bytes.1;
+  few = grind (arith, N.length-map);
+  small = grind (arith, N.LaneLemmas.high_small);
 })
 
 pub nonzero_rem-bytes : goal.nonzero_rem-bytes
-nonzero_rem-bytes c = N.Each2-splat _ c.args.bytes 16 16 (N.Each1-all _ (λ x. omega N.arith) c.args.bytes)
+nonzero_rem-bytes c = N.Each2-splat _ c.args.bytes 16 16 (N.Each1-all _ (λ x. omega arith) c.args.bytes)
 
 pub digits-low-requires : goal.digits-low-requires
 digits-low-requires c = rw (N.zip2_splat ◌%◌ c.args.bytes 16 16 c.requires) (record {
-  few = N.length-map c.args.bytes _
-      ∙ c.requires;
+  few = grind (arith, N.length-map);
   small = N.LaneLemmas.low_small c.args.bytes;
 })
 

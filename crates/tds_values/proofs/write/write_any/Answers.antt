@@ -8,5 +8,4 @@ returns-in-Decimal g c = rw c.in-Decimal.is (c.write_decimal.ensures c.in-Decima
 pub returns-in-DateTimeOffset-eq7 : N.write.write_any.Goals.returns-in-DateTimeOffset-eq7
 returns-in-DateTimeOffset-eq7 g c =
     let is = c.in-DateTimeOffset-eq7.is ∙ N.ap kinds.DateTimeOffset (N.sym c.in-DateTimeOffset-eq7.field-0-is ∙ c.in-DateTimeOffset-eq7.field-0-test) in
-    N.WrittenLemmas.written_as c.args.kind.now (kinds.DateTimeOffset 7) c.args.bytes.now c.write_date_time_offset.new.to c.write_date_time_offset.result is
-    c.write_date_time_offset.ensures
+    grind (N.arith, N.WrittenLemmas.written_as)
