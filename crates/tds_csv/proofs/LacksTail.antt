@@ -64,7 +64,7 @@ module _ {S : Type 0} (g : Grammar S Fault) (text : S → List ℕ) where
     few = x.few;
     puts = x.puts;
     part = x.part ++ p;
-    text_is = ap (λ l. text x.at ++ l) (append_assoc x.part p q) ∙ x.text_is;
+    text_is = grind (arith, append_assoc);
     half = N.Sinks.Puts-trans _ _ _ _ _ x.half puts;
   }
 
@@ -95,7 +95,7 @@ module _ {S : Type 0} (g : Grammar S Fault) (text : S → List ℕ) where
       few = x.few;
       puts = x.puts;
       more = x.part ++ tail;
-      text_is = x.text_is ∙ ap text (N.sym x.to_is);
+      text_is = grind arith;
       breaks = rw (parts, ← append_assoc x.part p q) (N.Sinks.WritesPrefix-longer _ _ _ q _ (N.Sinks.WritesPrefix-after _ _ _ _ _ _ x.half breaks));
     },
   )
@@ -175,14 +175,14 @@ module _ {S T : Type 0} (small : Grammar S Fault) (big : Grammar T Fault) (lift 
         element = l.element;
         at = lift l.at;
         spelt = N.Inside-Spelt _ _ _ is _ _ _ l.spelt;
-        next = N.next_inside _ _ _ is _ _ l.size l.next;
-        to_is = is.add l.at l.element l.size ∙ ap lift l.to_is;
-        takes = rw l.joined x.takes;
+        next = grind (arith, N.next_inside);
+        to_is = grind arith;
+        takes = grind arith;
         between = between;
         middle = cut.0;
         few = cut.1;
         puts = (before.0, added_between from l.at before.0 begin l.size before.1, cut.2);
         part = last.0;
-        text_is = tail_after l.at to last.0 tail l.size closed end;
+        text_is = grind (arith, tail_after);
         half = cut.3;
       }

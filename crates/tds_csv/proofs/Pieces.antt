@@ -27,8 +27,7 @@ module _ {S : Type 0} (g : N.Grammar S N.Fault) (text : S
             ahead = concat es ++ rest;
             spelt = spelt;
             next = leads.0;
-            takes = N.Takes-more a b _ 1 (N.length (bytes ++ e)) (omega (N.arith, N.length-append bytes e))
-                (rw (N.append_assoc (bytes ++ e) (concat es) rest) at taken);
+            takes = grind (N.arith, N.Takes-more, N.length-append, N.append_assoc, concat);
             between = between;
             middle = m;
             few = few;

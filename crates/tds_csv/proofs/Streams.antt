@@ -68,13 +68,13 @@ module _ {S T : Type 0} (small : Grammar S Fault) (big : Grammar T Fault) (lift 
     element = x.element;
     ahead = x.ahead;
     spelt = N.Inside-Spelt _ _ _ is _ _ _ x.spelt;
-    next = N.next_inside _ _ _ is _ _ (N.next_some _ _ _ x.next) x.next;
+    next = grind (N.arith, N.next_inside, N.next_some);
     takes = x.takes;
     between = x.between;
     middle = x.middle;
     few = x.few;
     puts = puts_inside from at h x.middle x.puts;
     more = x.more;
-    text_is = added_inside at (small.add at x.element) x.more x.text_is ∙ ap whole (N.sym (is.add at x.element (N.next_some _ _ _ x.next)));
+    text_is = grind (N.arith, added_inside, N.next_some);
     breaks = x.breaks;
   }

@@ -1,5 +1,5 @@
 use Rattle.tds_csv.proofs as N
-use N.{take, ℕ, ◌++◌, ◌+◌, ◌∙◌, ◌≡◌, ◌≤◌}
+use N.{take, ℕ, ◌++◌, ◌+◌, ◌≡◌, ◌≤◌}
 use Rattle.tds_text.specs.Quoting.{end_after}
 
 -- the comma, and the field that was written after it
@@ -8,7 +8,7 @@ in_place : (column start made : ℕ) (first new rest text : N.List ℕ) → star
 in_place column start made first new rest text there within is comma =
     let l = N.length-take-le start first there in
     let front = rw l at (N.take-append-add (take start first) (new ++ rest) made) in
-    front ∙ rw (N.take-append-le made new rest within, is) (comma text)
+    grind (N.arith, N.take-append-le)
 
 pub returns-clause-text : N.names.write_name.Goals.returns-clause-text
 returns-clause-text = grind (N.arith, in_place)
