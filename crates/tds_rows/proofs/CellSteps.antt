@@ -48,7 +48,7 @@ module _ {column place : ℕ} {a b : N.PayloadView} where
           some = some;
           whole = whole;
           first = first;
-          takes = N.Takes-more a b ((bytes ++ element) ++ ahead) _ _ few (rw (N.sym is) at takes);
+          takes = grind arith;
           between = between;
         },
         ap N.Payload place_is,
@@ -96,7 +96,7 @@ module _ {kind : Kind} {column n : ℕ} {from : N.CellPart} {front : List ℕ} (
   gathers : {place' : ℕ} (value : List ℕ) → length value ≡ n → Takes b d value n → N.IsBetween d → place' ≡ place + length front + n
       → N.GathersCell kind from column a d place place' (front ++ value)
   gathers value whole then_takes between there =
-      let takes = N.takes_both a b d front value first (rw (N.sym whole) at then_takes) in
+      let takes = N.takes_both a b d front value first (grind arith) in
       let all = N.length-append front value in
       record {
         whole = omega arith;

@@ -1,6 +1,6 @@
 -- What joiners do with the pieces of some content, in the words of their conversion.
 use Rattle.tds_rows.proofs as N
-use N.{◌≡◌, ◌∙◌, ℕ, ◌+◌, ◌-◌, ◌^◌, ◌<◌, ◌≤◌, Bool, List, [], ◌++◌, length, inr, sym, ap, subst, arith, Err, Stop, Takes, IsBetween, BeginsData, Conversion}
+use N.{◌≡◌, ◌∙◌, ℕ, ◌+◌, ◌-◌, ◌<◌, ◌≤◌, Bool, List, [], ◌++◌, length, inr, sym, ap, subst, arith, Err, Stop, Takes, IsBetween, BeginsData, Conversion}
 use N.{IsFit, conversion_rest, emit, SinkView, joins_by_name}
 use N.Paths.{At, over, until}
 use Rattle.tds_csv.specs.declared.joiners.JoinFault.TheVariants as join_faults
@@ -170,7 +170,7 @@ module _ {c : Conversion} {content kept : List ℕ} {p q : At} {n left : ℕ} (b
     more = x.more ++ y.piece;
     fills = fills_more c content begun few delivered x.fills y;
     counted = omega (arith, N.length-append x.more y.piece);
-    kept_is = y.kept_is ∙ ap (conversion_rest c) (N.append_assoc content x.more y.piece);
+    kept_is = grind (arith, N.append_assoc);
   }
 
   pub filled_stops : {column : ℕ} {e : N.Paths.Halt} → 0 < left → until (N.StopsData c (content ++ x.more) column left) q e

@@ -1,6 +1,6 @@
 -- Long values, in the grammar of a cell: the text of their parts, the pieces of their content, and their lengths and ends.
 use Rattle.tds_rows.proofs as N
-use N.{◌≡◌, ◌∙◌, inl, inr, ℕ, ◌-◌, ◌^◌, ◌<◌, ◌≤◌, Bool, List, [], ◌∷◌, ◌++◌, length, sym, ap, arith, append-nil, Option, Stop, PayloadView, Conversion}
+use N.{◌≡◌, ◌∙◌, inl, inr, ℕ, ◌-◌, ◌<◌, Bool, List, [], ◌∷◌, ◌++◌, length, sym, ap, arith, append-nil, Option, Stop, PayloadView, Conversion}
 use N.{is_quoted, after_comma, SinkView, Puts, held, CellPart, PutsField, cell_so_far, ending, opening, ◌≢◌, ◌+◌, ChunkLength, ◌⊎◌, suc, true, false}
 use N.{refl, subst, append_assoc, Some, BadText, Spelt, BeginsData, is_fit, open_field, added_text}
 use N.Words.{cell}
@@ -86,7 +86,7 @@ module _ {column : ℕ} {c : Conversion} {state : ℕ → List ℕ → CellPart}
   adds_none d p x begun same =
       let laws = N.joins_by_name c in
       let regroup = sym (append_assoc d p _) in
-      N.append_cancel_left _ _ _ (sym (laws.emits d _ begun) ∙ ap (emitted c) regroup ∙ same
+      N.append_cancel_left _ _ _ (sym (grind arith) ∙ ap (emitted c) regroup ∙ same
       ∙ laws.emits d p (grind arith))
 
   -- the byte after some that are good is refused
@@ -156,8 +156,8 @@ module _ {column : ℕ} {c : Conversion} {state : ℕ → List ℕ → CellPart}
               (N.WritesPrefix-longer h i _ _ _ breaks))
           | inr none ↦
               (let front = (N.joins_by_name c).front _ _ (subst (BeginsData c) same begun) in
-              broken p _ _ (front_spelt d p 0 (omega (arith, N.length-append p (x ∷ []))) front) (rw append_assoc at takes) between
-              (text_grown d p r 0 front) (rw (adds_none d p x begun none) at breaks))
+              broken p _ _ (grind (arith, front_spelt, N.length-append)) (rw append_assoc at takes) between
+              (text_grown d p r 0 front) (grind (arith, adds_none)))
         ]
 
     piece_broken : N.WritesPrefixOfData c d (suc r) a b h i stop → Stopped true
@@ -239,7 +239,7 @@ module _ {column : ℕ} {c : Conversion} {state : ℕ → List ℕ → CellPart}
         let stands : x.there + length f ≡ q.place - 1 = omega arith in
         path_stops front_path (rw stands at (byte_refused {a = x.middle} {h = x.between} {i = q.held} {m = suc last_left} e f [] y 0 x.there
         (omega arith) ((N.joins_by_name c).front _ _ (rw same at begun)) (bad _ y unfit_here) (rw s.2 at x.takes.takes)
-        x.takes.between (rw (s.2, adds) at x.takes.puts)))
+        x.takes.between (grind arith)))
 
 -- ---- the content of a short value, and of a chunk
 
@@ -255,7 +255,7 @@ module _ (column : ℕ) (c : Conversion) where
       let rest = N.conversion_text c _ in
       let close = N.closing _ in
       ap (λ l. after_comma column (open_field c d) ++ l) (sym (append_assoc rest close _)) ∙ sym (append_assoc _ (rest ++ close) _)
-      ∙ ap (λ l. l ++ N.end_after last) (sym (after_append column _ _) ∙ ap (after_comma column) (N.open_closes c d fit))
+      ∙ ap (λ l. l ++ N.end_after last) (grind (arith, after_append, N.open_closes))
 
   pub short_holds : HoldsContent column c (short_left c) (λ d. is_fit c d ≡ true)
   short_holds = record {
@@ -391,12 +391,12 @@ module _ (column : ℕ) (last : Bool) (c : Conversion) where
     pub short_whole : {k : SinkView} → N.IsFit c all → Puts q.held k (ending c (is_quoted c) last all)
         → PutsField (short_left c n []) column last p.seen q.seen p.place q.place p.held k
     short_whole fit puts = let good = (N.fit_by_test c all).1 fit in
-        field_of (ends_path last (short_holds column c) x _ good (ending_text column c last all good) puts)
+        field_of (ends_path last (short_holds column c) x _ good (grind (arith, ending_text)) puts)
 
     pub short_end_stops : {k : SinkView} {failed : Bool} {stop : Stop} → StopsEnding c (is_quoted c) last all column (q.place - 1) q.held k failed stop
         → StopsField (short_left c n []) column last p.seen q.seen p.place p.held k failed stop
     short_end_stops (inl z) = let good = (N.fit_by_test c all).1 z.0 in
-        rw z.2 (ends_break last (short_holds column c) x _ good (ending_text column c last all good) z.1)
+        rw z.2 (ends_break last (short_holds column c) x _ good (grind (arith, ending_text)) z.1)
     short_end_stops (inr z) = rw (z.3, z.2, z.1) (ends_refused last (short_holds column c) x (short_refused column c) (grind (arith, N.fit_by_test)))
 
 -- ---- values in chunks
@@ -426,7 +426,7 @@ module _ {column : ℕ} {last : Bool} {c : Conversion} {total : Option ℕ} {kep
       → PutsField (ChunkLength c total []) column last p.seen d p.place there p.held j
   chunks_whole none fit puts =
       let good = (N.fit_by_test c x.content).1 fit in
-      field_of (path_both x.path (next_path last (chunk_end c unit_is x.counted y free none good) _ (ending_text column c last x.content good) puts))
+      field_of (path_both x.path (next_path last (chunk_end c unit_is x.counted y free none good) _ (grind (arith, ending_text)) puts))
 
   pub chunks_end_stops : {j : SinkView} {failed : Bool} {stop : Stop} → N.HasRoom q.held → N.Counts q.held → n ≡ 0
       → StopsEnding c (is_quoted c) last x.content column q.place q.held j failed stop
@@ -435,7 +435,7 @@ module _ {column : ℕ} {last : Bool} {c : Conversion} {total : Option ℕ} {kep
       let good = (N.fit_by_test c _).1 z.0 in
       let tail = ending c _ last _ in
       path_stops x.path (next_breaks last (chunk_end c unit_is x.counted y free none good) tail [] few delivered z.2
-      (ap (λ l. cell_so_far column last (ChunkLength c total x.content) ++ l) (append-nil tail) ∙ ending_text column c last _ good) z.1)
+      (grind (arith, append-nil, ending_text)) z.1)
   chunks_end_stops _ delivered none (inr z) =
       path_stops x.path (rw (z.1, z.2) (reading_stops last delivered z.3 (N.Numbers.chunk_unfit c unit_is x.counted y free none
       (grind (arith, N.fit_by_test)))))

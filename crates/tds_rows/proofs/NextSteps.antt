@@ -235,9 +235,9 @@ module _ (charset : Charset) (all : List Column) (some : 0 < length all) where
                 bytes = [];
                 element = x.element;
                 ahead = x.ahead;
-                spelt = N.Spelt-none _ found.0.at;
+                spelt = grind arith;
                 next = z.0;
-                takes = N.Takes-more apart.0 e.seen (x.element ++ x.ahead) 0 _ (omega arith) apart.2;
+                takes = grind arith;
                 between = x.between;
                 middle = x.middle;
                 few = x.few;
@@ -317,20 +317,20 @@ module _ {charset : Charset} {columns : List Column} where
   rows_marked : (n : ℕ) {o p q : At} {count : ℕ} {bytes text : List ℕ} → 0 < length columns → N.WritesNbcRows charset columns n bytes text
       → Passes p q bytes text → RowsAt N.NbcRow charset columns o p count (Bitmap columns)
       → RowsAt N.NbcRow charset columns o q (count + n) (Bitmap columns)
-  rows_marked N.zero {count = count} _ w y x = rw (N.add-zero count) (rows_stay x (rw (w.0, w.1) at y))
+  rows_marked N.zero {count = count} _ w y x = rw (N.add-zero count) (grind (arith, rows_stay))
   rows_marked (N.suc n) {p = p} {q} {count} some (front, row, before, line, joined, text_is, earlier, last) y x =
       let token = N.token_byte N.NbcRow ∷ [] in
-      let u = passes_apart p q (front ++ row) token (before ++ line) [] (rw (N.append_assoc, N.append-nil) (rw (joined, text_is) at y)) in
+      let u = passes_apart p q (front ++ row) token (before ++ line) [] (grind (arith, N.append_assoc, N.append-nil)) in
       let read = rows_one front row before line some u.2.delivered last u.1 (λ t z. rows_marked n some earlier z x) in
       let counted : count + N.suc n ≡ count + n + 1 = omega arith in
-      rw counted (rows_token some read (takes_one u.0.seen q.seen token u.2.takes) u.2.puts u.2.place_is)
+      rw counted (rows_token some read (grind (arith, takes_one)) u.2.puts u.2.place_is)
 
   -- and one more, which no other follows
   rows_last : (n : ℕ) {o p q : At} {count : ℕ} {bytes text : List ℕ} → 0 < length columns → Counts q.held
       → N.WritesWholeRows charset columns n N.true bytes text → Passes p q bytes text → RowsAt N.NbcRow charset columns o p count (Bitmap columns)
       → over (ReadsRows N.NbcRow charset columns (count + n + 1)) o q
   rows_last n some delivered (front, row, before, line, joined, text_is, earlier, last) y x =
-      rows_one front row before line some delivered last (rw (joined, text_is) at y) (λ t z. rows_marked n some earlier z x)
+      rows_one front row before line some delivered last (grind arith) (λ t z. rows_marked n some earlier z x)
 
 -- ---- what calls do that read cells or rows
 
@@ -433,7 +433,7 @@ module _ {R W : Type 0} (remaining : N.Tells R) (contents : N.Tells W) where
         reads = rw run.leaves.same.3 (λ columns knows.
             let y = x.reads _ knows in
             let ran = run.cells.wrote _ knows y.0 in
-            (ran.0, rowing_run y.1 run.cells (ran.1 _ y.1.cells refl y.1.counted)));
+            (ran.0, rowing_run y.1 run.cells (grind arith)));
       }
       stands_run (N.Marked bitmap) x run = let kept = stays_on x.kept run.leaves in record {
         kept = kept;
@@ -467,7 +467,7 @@ module _ {R W : Type 0} (remaining : N.Tells R) (contents : N.Tells W) where
             let y = x.reads _ knows in
             let t = next.takes _ knows y.0 in (
               t.ahead,
-              rw (sym t.further) at (rowing_cell (none_ahead (drop to.column columns) _) (rw t.next at y.1) (cell_read old (λ k. false) knows t next.read)),
+              rw (sym t.further) at (rowing_cell (grind (arith, none_ahead)) (rw t.next at y.1) (cell_read old (λ k. false) knows t next.read)),
             ));
       }
       stands_next (N.Marked bitmap) x leaves next = grind (arith, next_nears)
@@ -516,7 +516,7 @@ module _ {R W : Type 0} (remaining : N.Tells R) (contents : N.Tells W) where
     rw writing.writing (record {
       at = Bitmap _;
       cause = inl (
-        N.cut_at_once _ _ _ _ _ x.part x.own _ (omega arith) x.ends (N.began_is_cut _ _ _ _ refl x.stop_is),
+        N.cut_at_once _ _ _ _ _ x.part x.own _ (omega arith) x.ends (grind (arith, N.began_is_cut)),
         ([], refl, N.Puts-none _ writing.ready.2),
         refl,
       );
@@ -559,13 +559,13 @@ module _ {R W : Type 0} (remaining : N.Tells R) (contents : N.Tells W) where
           let y = taken columns knows in
           let w = rw ((none refl).0, more) at y.wrote in
           let passes = passes_on x.kept kept y in
-          rw ((none refl).0, N.add-zero count) (rows_stay (x.reads columns knows) (rw (w.0, w.1) at passes)));
+          rw ((none refl).0, N.add-zero count) (grind (arith, rows_stay)));
     }
     come_taken N.NbcRow _ x more = let kept = stays_on x.kept leaves in record {
       kept = kept;
       reads = rw leaves.same.3 (λ columns knows.
           let y = taken columns knows in
-          rows_marked n (omega arith) (rw more at y.wrote) (passes_on x.kept kept y) (x.reads columns knows));
+          rows_marked n (omega arith) (rw more at y.wrote) (passes_on x.kept kept y) (grind arith));
     }
 
     -- and the last, which no other follows
@@ -601,7 +601,7 @@ module _ {R W : Type 0} (remaining : N.Tells R) (contents : N.Tells W) where
       come_next some stays sink taken = let kept = stays_on x.kept leaves in record {
         kept = stays_on kept stays;
         reads = rw (stays.same.3, leaves.same.3) (λ columns knows. rows_token (omega arith) (come_here _ new token x (read _ knows) knows)
-            taken.0 (none_put sink kept.in_row.sink.ready.2) taken.1);
+            taken.0 (grind (arith, none_put)) taken.1);
       }
 
     -- they stopped

@@ -1,6 +1,6 @@
 -- Rows with NULLs by their bit, column after column, as they are read and their text is put.
 use Rattle.tds_rows.proofs as N
-use N.{◌≡◌, ◌∙◌, inr, ℕ, ◌+◌, ◌-◌, ◌<◌, Bool, false, List, [], ◌∷◌, ◌++◌, length, sym, arith, Column, Charset, Cell, CellPart, RowPart, row_so_far}
+use N.{◌≡◌, inr, ℕ, ◌+◌, ◌-◌, ◌<◌, Bool, false, List, [], ◌∷◌, ◌++◌, length, sym, arith, Column, Charset, Cell, CellPart, RowPart, row_so_far}
 use N.Words.{row}
 use N.RowSteps.{PutsAt, cell_some, StopsCell}
 use N.Paths.{At, Breaks, Halt, Path, RowStops, path_none, path_of, streams_of, over, until}
@@ -111,7 +111,7 @@ pub cell_path : {ks : List (Column × Bool)} {column : ℕ} {p q : At} (charset 
     → (v : Cell) × Path (row charset) row_so_far (N.next_cell charset cells ((c, false) ∷ ks)) p q (N.next_cell charset (cells ++ v ∷ []) ks)
 cell_path _ c counted none y =
     let z = rw (sym counted) at y in
-    (z.value, N.Paths.path_map (λ a m. row_cell _ _ _ c (rw counted none)) (path_of z.streams z.place_is))
+    (z.value, N.Paths.path_map (λ a m. row_cell _ _ _ c (rw counted none)) (grind arith))
 
 module _ {charset : Charset} {start : RowPart} {c : Column} {ks : List (Column × Bool)} {p q : At} {column : ℕ} where
   -- a NULL by its bit was put

@@ -90,8 +90,7 @@ module _ {column : ℕ} (c : N.Conversion) {size : ℕ} (unit_is : size ≡ N.un
       pub chunk_unfit : n ≡ 0 → N.is_fit c content ≡ N.false
           → N.StopsReading (cell column) (ChunkLength c total content) a b place (ChunkLength c total content)
           (record { fault = N.BadText column; place = N.Payload place })
-      chunk_unfit none unfit = N.refused_at_once _ _ a b place _ _ (omega arith) x.whole (grind arith ∙ N.ap (λ f. N.unless f (N.BadText column)) unfit)
-          x.takes x.between
+      chunk_unfit none unfit = search (N.rules, N.refused_at_once)
 
       -- the length of a chunk was read
       pub chunk_start : n ≢ 0 → Next column (ChunkLength c total content) a b place place' (chunk_left c total n content)

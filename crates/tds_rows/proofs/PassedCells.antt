@@ -1,6 +1,6 @@
 -- The value of a RETURNVALUE, as it is passed over.
 use Rattle.tds_rows.proofs as N
-use N.{◌≢◌, ◌≡◌, ◌∙◌, ℕ, ◌+◌, ◌-◌, ◌%◌, ◌<◌, ◌≤◌, true, List, [], ◌++◌, length, refl, arith, Option, Stop, PayloadView, Conversion, Cell, CellPart, ChunkLength}
+use N.{◌≢◌, ◌≡◌, ℕ, ◌+◌, ◌-◌, ◌%◌, ◌<◌, ◌≤◌, true, List, [], ◌++◌, length, refl, arith, Option, Stop, PayloadView, Conversion, Cell, CellPart, ChunkLength}
 use N.{return_column, AnyData, PassesData, StepsOver}
 use N.Words.{cell}
 use N.LongValues.{content_spelt, chunk_holds, short_holds}
@@ -19,7 +19,7 @@ module _ {s t : CellPart} {a b d : PayloadView} {place middle : ℕ} (x : StepsO
 
   -- a value after what was read of it
   pub cell_after : {place' : ℕ} → N.PassesCell t b d middle place' → N.PassesCell s a d place place'
-  cell_after y = record { value = y.value; steps = steps_both y.steps }
+  cell_after y = search (N.rules, steps_both)
 
 -- ---- data, byte by byte
 
@@ -169,4 +169,4 @@ module _ {c : Conversion} {size : ℕ} (any : AnyData c size) where
     end_steps ends = grind (arith, steps_of)
 
     pub chunk_steps : k ≢ 0 → StepsOver (ChunkLength c total content) (N.Numbers.chunk_left c total k content) a b place place'
-    chunk_steps some = rw (N.sym is) at (steps_of (N.Numbers.chunk_start c (N.sym any.unit_is) counted x free (λ e. some (is ∙ e))))
+    chunk_steps some = search (N.rules, steps_of, N.Numbers.chunk_start)

@@ -37,9 +37,9 @@ module _ {R W U : Type 0} {column : ℕ} {last : Bool} {bytes text : List ℕ} {
   put_whole {r = Err stop} x takes puts = whole_breaks {rest = N.[]} charset kind x (record {
     takes = rw N.append-nil takes;
     between = between;
-    few = going.ready.1 going.writing;
+    few = grind arith;
     delivered = going.ready.2;
-    breaks = puts.gives going.writing;
+    breaks = grind arith;
     failed = puts.failed;
   })
 
@@ -108,6 +108,6 @@ run_put {to = to} {run = run} {r = Err stop} _ _ _ ran takes between _ going put
   wrote = ran.writes;
   takes = takes;
   between = between;
-  breaks = puts.gives going.writing;
+  breaks = grind arith;
   failed_is = puts.failed;
 }

@@ -105,7 +105,7 @@ module _ (token : N.RowToken) (charset : N.Charset) (columns : List N.Column) (s
   row_of_rows : (before : List (List Cell)) (cells : List Cell) (bytes : List ℕ) → N.SpellsRow token charset columns cells bytes
       → Spelt all_rows (begun_after before) bytes (among before (N.WholeRow cells))
   row_of_rows before cells bytes h = N.Inside-Spelt _ all_rows _ (row_among_rows token charset columns before) _ bytes _
-      (token_row_is_read token charset columns cells bytes some_columns h)
+      (grind (arith, token_row_is_read))
 
   -- rows that are spelt are read as rows
   rows_are_read : (before : List (List Cell)) (first : List Cell) (later : List (List Cell)) (bytes : List ℕ)

@@ -3,12 +3,7 @@ use N.cell.passed.pass_chunks.Goals as goal
 use N.PassedCells.{chunks_cut, chunks_end, chunks_more, chunks_none, chunk_steps, end_steps}
 
 pub loop-n-init : goal.loop-n-init
-loop-n-init g c = record {
-  going = c.requires.going;
-  same = search N.rules;
-  few = omega N.arith;
-  walks = λ conversion any. chunks_none (N.between_of g.R.Read.remaining c.args.payload.now c.requires.going.going);
-}
+loop-n-init g c = search (N.rules, chunks_none, N.between_of)
 
 pub returns-in_err-n-clause-cell : goal.returns-in_err-n-clause-cell
 returns-in_err-n-clause-cell g c = λ conversion any.

@@ -23,5 +23,4 @@ returns-in-Wide-clause-succeeds g c = λ going value bytes more.
     (returns-in-Wide-clause-cell g c going)
 
 pub returns-in_default-kind-clause-succeeds : goal.returns-in_default-kind-clause-succeeds
-returns-in_default-kind-clause-succeeds g c = λ going value bytes more.
-    value_passes g.R.Read.remaining _ c.args.payload.now c.pass_scalar.new.payload _ value bytes more c.pass_scalar.ensures.cell
+returns-in_default-kind-clause-succeeds g c = search (N.rules, value_passes)

@@ -24,15 +24,4 @@ returns-in-Err-Refused g c = record {
 }
 
 pub returns-in-Ok : goal.returns-in-Ok
-returns-in-Ok g c = record {
-  leaves = search arith;
-  cell = let kind = c.args.format.now.kind in
-      let charset = c.args.self.now.row_format.now.charset in
-      let bytes = c.bytes-bytes.result.now in
-      let alone = c.in-Ok.ensures.cell in
-      let x = rw (N.sym c.bytes-bytes.ensures.value) at (c.in_ok-gather_scalar.ensures.cell charset) in
-      let all =
-      N.take_all c.in-Ok.cell.used bytes (omega (arith, scalar_whole kind bytes c.requires.scalar)) in
-      N.RunPuts.put_cell g.R.Read.remaining c.args.self.now.payload.now c.gather_scalar.new.payload charset kind c.requires.next.in_row.sink x.between
-      x.place_is (rw all at (alone.1.at_once c.requires.scalar charset)) x.takes c.put.ensures;
-}
+returns-in-Ok g c = search (N.rules, N.take_all, scalar_whole, N.RunPuts.put_cell)

@@ -15,12 +15,4 @@ returns-in_err-put g c =
     }
 
 pub returns : goal.returns
-returns g c =
-    let run = c.run-run in
-    let at = N.RunPuts.consumed c.args.self.now.payload.now run.result.used c.consume.ensures.rest (search arith) in
-    record {
-      leaves = search arith;
-      few = omega (arith, run.ensures.cells.few, N.ap (λ p. p.place) c.consume.ensures.rest);
-      cells = N.RunPuts.run_put _ _ _ (rw c.buffered-bytes.ensures at run.ensures.cells)
-          c.consume.ensures.gives (c.consume.ensures.between c.requires.in_row.payload.going) at c.requires.in_row.sink c.in_ok-put.ensures;
-    }
+returns g c = search (N.rules, N.RunPuts.consumed, N.RunPuts.run_put)

@@ -1,6 +1,6 @@
 use Rattle.tds_rows.proofs as N
 use N.rows.Rows.put_within.Goals as goal
-use N.{◌≡◌, ◌∙◌, ◌+◌, ◌-◌, ◌≤◌}
+use N.{◌≡◌, ◌∙◌, ◌+◌, ◌-◌}
 
 pub returns-clause-ends : goal.returns-clause-ends
 returns-clause-ends g c =

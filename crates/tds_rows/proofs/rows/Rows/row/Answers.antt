@@ -37,8 +37,4 @@ loop-format-preserved g c =
     }
 
 pub returns-clause-row : goal.returns-clause-row
-returns-clause-row g c =
-    let l = c.loop-format.invariant in
-    rw (← l.stays.same.3) (λ columns knows.
-    let reads = l.reads columns knows in
-    N.NullSteps.row_ends (rw (c.in_default.ensures.taken columns knows reads.0) at reads.1))
+returns-clause-row g c = search (N.rules, N.NullSteps.row_ends)

@@ -32,10 +32,7 @@ returns-in_ok-put_opening-in-Some-clause-field g c = λ conversion suits. rw c.i
     (λ stop y. N.Paths.path_stops start y))
 
 pub returns-in_err-total-in-Chunked-clause-blames : goal.returns-in_err-total-in-Chunked-clause-blames
-returns-in_err-total-in-Chunked-clause-blames g c =
-    N.passed _ _ _ _ c.from_residual.ensures.1 (N.Numbers.read_stops _ _ c.in_err-total-in-Chunked.field-0.0
-    (N.Numbers.length_blames g.R.Read.remaining c.args.self.now.payload.now c.requires.payload.going
-    (N.Numbers.total_blames _ _) c.in_err-total-in-Chunked.ensures.length))
+returns-in_err-total-in-Chunked-clause-blames g c = search (N.rules, N.passed, N.Numbers.read_stops, N.Numbers.length_blames, N.Numbers.total_blames)
 
 pub returns-in-Short-clause-field : goal.returns-in-Short-clause-field
 returns-in-Short-clause-field g c = λ conversion suits. rw c.in-Short.is (c.short.ensures.field conversion suits)
