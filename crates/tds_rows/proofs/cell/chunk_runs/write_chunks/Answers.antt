@@ -17,6 +17,6 @@ loop-total-preserved g c =
       room = omega (arith, added_most c.next_chunk-n.result _ w.written);
       few = omega (arith, l.invariant.few);
       chunks = λ conversion suits content is begun counted column last.
-          chunk_step suits column last l.to _ counted (l.invariant.chunks conversion suits content is begun counted column last) chunk w.written
+          chunk_step suits column last l.to _ counted (search N.rules) chunk w.written
           l.invariant.room fits;
     }

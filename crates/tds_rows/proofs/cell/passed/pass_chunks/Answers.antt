@@ -15,7 +15,7 @@ pub returns-then-n-eq0-clause-cell : goal.returns-then-n-eq0-clause-cell
 returns-then-n-eq0-clause-cell g c = λ conversion any.
     let x = c.loop-n.invariant.walks conversion any in
     let r = c.in_ok-n.ensures.length in
-    chunks_end x (end_steps any x.counted r.1 r.2 r.3 c.if-n-eq0.true)
+    chunks_end x (search (N.rules, end_steps))
 
 pub returns-in_err-pass_data-clause-cell : goal.returns-in_err-pass_data-clause-cell
 returns-in_err-pass_data-clause-cell g c = λ conversion any.
@@ -35,5 +35,5 @@ loop-n-preserved g c =
       few = omega N.arith;
       walks = λ conversion any.
           let x = l.invariant.walks conversion any in
-          chunks_more x any (chunk_steps any x.counted r.1 r.2 r.3 c.if-n-eq0.false) done.data;
+          chunks_more x any (search (N.rules, chunk_steps)) done.data;
     }

@@ -7,7 +7,7 @@ loop-left-init g c = record {
   going = c.requires.going;
   same = search N.rules;
   most = omega arith;
-  passes = N.PassedCells.passes_none (omega arith) (N.between_of g.R.Read.remaining c.args.payload.now c.requires.going.going);
+  passes = N.PassedCells.passes_none (omega arith) (search (N.rules, N.between_of));
 }
 
 pub returns-in_err-left-clause-data : goal.returns-in_err-left-clause-data

@@ -13,7 +13,7 @@ returns-in-None-clause-cell g c = λ kind conversion any.
 
 pub returns-in-Some-clause-cell : goal.returns-in-Some-clause-cell
 returns-in-Some-clause-cell g c = λ kind conversion any.
-    let x = steps_of (N.Numbers.short_start _ (sym any.unit_is) c.in_ok-n-in-Short.ensures.length c.in-Some.is) in
+    let x = steps_of (search (N.rules, N.Numbers.short_start)) in
     let even = short_even any c.in_ok-n-in-Short.ensures.length c.in-Some.is in
     rw c.in-Short.is
     (N.MatchResult-weaker _ c.pass_data.ensures.data (λ _. short_passes any x even) (λ _. short_cuts any x))
@@ -31,6 +31,6 @@ returns-in-None-2-clause-cell g c = λ kind conversion any.
 
 pub returns-in-Some-2-clause-cell : goal.returns-in-Some-2-clause-cell
 returns-in-Some-2-clause-cell g c = λ kind conversion any.
-    let x = steps_of (N.Numbers.total_start _ (sym any.unit_is) c.in_ok-total-in-Chunked.ensures.length c.in-Some-2.is) in
+    let x = steps_of (search (N.rules, N.Numbers.total_start)) in
     rw c.in-Chunked.is
     (N.MatchResult-weaker _ (c.pass_chunks.ensures.cell conversion any) (λ _. cell_after x) (λ _. N.PassedCells.stops_after_steps x))

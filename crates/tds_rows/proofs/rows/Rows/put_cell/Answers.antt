@@ -11,7 +11,7 @@ returns-in-Ok g c =
       cell =
           let alone = rw c.buffered-bytes.ensures at c.in-Ok.ensures.cell in
           N.RunPuts.put_whole g.R.Read.remaining old.payload.now c.consume.new.self _ _ c.requires.in_row.sink
-          (c.consume.ensures.between c.requires.in_row.payload.going) at alone.1.whole c.consume.ensures.gives c.put.ensures;
+          (search N.rules) at alone.1.whole c.consume.ensures.gives c.put.ensures;
     }
 
 -- a long value is that of its kind
@@ -19,7 +19,7 @@ pub returns-in-Some : goal.returns-in-Some
 returns-in-Some g c =
     let arm = c.in-Some.ensures in
     record {
-      leaves = c.put_joined.ensures.leaves;
+      leaves = search N.rules;
       cell =
           let start = N.sym (ap (N.cell_start c.args.format.now.kind) (rw arm.short at c.requires.laid)) in
           rw start at (rw c.is_last-last.ensures at c.put_joined.ensures.field);
@@ -29,7 +29,7 @@ pub returns-in-Err-Long : goal.returns-in-Err-Long
 returns-in-Err-Long g c =
     let arm = c.in-Err-Long in
     record {
-      leaves = c.put_joined-in-Err-Long.ensures.leaves;
+      leaves = search N.rules;
       cell =
           let start = N.sym (ap (N.cell_start c.args.format.now.kind) (rw arm.field-0-is at arm.ensures.left)) in
           rw start at (rw (arm.content-is, arm.reach-is, c.is_last-last-in-Err-Long.ensures) at c.put_joined-in-Err-Long.ensures.field);

@@ -7,7 +7,7 @@ pub returns-in_err-gather_scalar : goal.returns-in_err-gather_scalar
 returns-in_err-gather_scalar g c = record {
   leaves = search arith;
   cell = rw c.requires.next.in_row.sink.writing (N.passed _ _ _ _ c.from_residual.ensures.1 (N.RowSteps.at_once_stalls _ _
-      _ _ c.requires.next.in_row.sink.ready.2 (c.in_err-gather_scalar.ensures.cell _)));
+      _ _ c.requires.next.in_row.sink.ready.2 (search N.rules)));
 }
 
 pub returns-in-Err-Refused : goal.returns-in-Err-Refused

@@ -10,7 +10,7 @@ returns-in_err-put g c =
       leaves = search arith;
       few = search arith;
       cells = N.passed _ _ _ _ c.from_residual.ensures.1 (N.RunPuts.run_put _ _ _
-          (rw c.buffered-bytes.ensures at run.ensures.cells) c.consume.ensures.gives (c.consume.ensures.between c.requires.in_row.payload.going) at
+          (rw c.buffered-bytes.ensures at run.ensures.cells) c.consume.ensures.gives (search N.rules) at
           c.requires.in_row.sink c.in_err-put.ensures);
     }
 

@@ -7,7 +7,7 @@ returns-then-TOKEN-clause-rows g c = λ columns knows. record {
   bytes = [];
   text = [];
   wrote = (N.refl, N.refl);
-  takes = N.Takes-none (N.seen g.R.Read.remaining c.args.self.now.payload.now) 0;
+  takes = search N.rules;
   puts = N.Puts-none (N.held g.W.Write.contents c.args.self.now.sink.now) c.requires.in_row.0.sink.ready.2;
   place_is = N.sym (N.add-zero _);
 }

@@ -8,6 +8,5 @@ returns g c = record {
       let old = c.args.self.now.payload.now in
       let all = N.take_all (N.length c.buffered-left.result.now) (N.buffered old) (search N.rules) in
       rw (c.requires.in_row.sink.writing, c.refusal.ensures, c.place-place.ensures) (N.RowSteps.at_once_stalls _ _ _ _ c.requires.in_row.sink.ready.2
-      (N.CellSteps.refused_stalls (N.seen g.R.Read.remaining old) (N.seen g.R.Read.remaining c.consume.new.self) _ _ _ c.requires.refused
-      (rw all at c.consume.ensures.gives) (c.consume.ensures.between c.requires.in_row.payload.going)));
+      (search (N.rules, N.CellSteps.refused_stalls)));
 }

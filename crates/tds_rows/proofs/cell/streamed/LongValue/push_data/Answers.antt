@@ -5,13 +5,13 @@ use N.{◌∙◌, rules}
 pub loop-left-init : goal.loop-left-init
 loop-left-init g c = record {
   leaves = search rules;
-  begun = c.requires.joining.begun;
+  begun = search rules;
   some = c.requires.some;
   place = search rules;
   calm = N.refl;
   filled = λ conversion content suits is begun.
-      N.JoinedPieces.filled_none begun is (N.between_of g.R.Read.remaining c.args.self.now.payload.now c.requires.joining.payload.going)
-      (c.requires.joining.sink.ready.1 c.requires.joining.sink.writing) c.requires.joining.sink.ready.2;
+      N.JoinedPieces.filled_none begun is (search (rules, N.between_of))
+      (search rules) c.requires.joining.sink.ready.2;
 }
 
 pub returns-in_err-left-clause-data : goal.returns-in_err-left-clause-data
@@ -34,5 +34,5 @@ loop-left-preserved g c =
       filled = λ conversion content suits is begun.
           let p = l.filled conversion content suits is begun in
           let x = done.piece conversion _ suits p.kept_is p.fills.begun in
-          N.JoinedPieces.filled_more begun p done.further.1 (done.leaves.sink.ready.1 done.leaves.sink.writing) done.leaves.sink.ready.2 x;
+          N.JoinedPieces.filled_more begun p done.further.1 (search rules) done.leaves.sink.ready.2 x;
     }

@@ -6,11 +6,7 @@ returns-in_err-piece-clause-piece g c = λ conversion content suits is begun.
     let k = N.at_err _ _ _ _ c.in_err-piece.was c.piece.follows.holds-at-none.2 in
     let there = N.stops_here g.R.Read.remaining c.args.self.now.payload.now (N.seen g.R.Read.remaining c.piece.follows.lender-at-none) _
     c.requires.joining.payload.going k.0 in
-    N.passed _ _ _ _ c.from_residual.ensures.1 (N.inl (
-      record { part = N.[]; own = c.in_err-piece.field-0.0; fewer = omega N.arith; ends = k.0; stop_is = there },
-      N.refl,
-      c.requires.joining.sink.writing,
-    ))
+    N.passed _ _ _ _ c.from_residual.ensures.1 (search N.rules)
 
 pub returns-in-Ok-clause-piece : goal.returns-in-Ok-clause-piece
 returns-in-Ok-clause-piece g c = λ conversion content suits is begun.
