@@ -111,10 +111,7 @@ module _ {kind : Kind} {column n : ℕ} {from : N.CellPart} {front : List ℕ} (
       → middle ≡ place + length front → stopped ≡ None → place' ≡ (if N.is_ok result then middle + n else middle)
       → N.MatchResult result (λ _. N.TakesInto b d before after n) (λ stop. stopped ≡ None → N.EndsInto b d before after middle n stop)
       → N.MatchResult result (λ _. N.GathersCell kind from column a d place place' after.bytes) (λ stop. StallsCell from column a d place stop)
-  value_taken _ _ (Ok u) is at _ there y = grind (arith, gathers)
-  value_taken _ _ (N.Err stop) is at going there y =
-      let e = rw at at (y going) in
-      stalls_after (cell_cut e.part e.own refl refl refl e.fewer e.ends e.stop_is)
+  value_taken = grind (arith, N.common_steps, gathers, stalls_after, cell_cut)
 
 -- from the shape of a scalar kind on
 pub scalar_start : (charset : N.Charset) (kind : Kind) {o : N.Option ℕ} → N.is_scalar kind ≡ true → N.fixed_length kind ≡ o

@@ -91,7 +91,7 @@ chunk_step suits column last {content = content} {bytes = bytes} {new} {at} {mad
     let tail = made_more made added to new after room (omega (arith, added_most n _ y)) in
     let regroup = N.append_assoc content x.more piece in
     let sum : length content + so_far ≡ length (content ++ x.more) = grind (arith, N.length-append) in
-    let one = chunk_writes _ column last _ (content ++ x.more) _ piece n sizes.0 chunk.number sizes.1 chunk.some (rw (← counted, sum) at chunk.fits) z.0 in
+    let one = chunk_writes _ column last _ (content ++ x.more) _ piece n sizes.0 chunk.number sizes.1 chunk.some (search N.rules) z.0 in
     rw (next_bytes bytes at n, tail) (record {
       more = x.more ++ piece;
       counted = grind (arith, N.length-append);

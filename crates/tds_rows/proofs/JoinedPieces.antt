@@ -122,7 +122,7 @@ module _ (c : Conversion) (content : List ℕ) (begun : BeginsData c content) wh
       N.append_cancel_left _ _ _
       (sym (N.append_assoc (e content) _ _)
       ∙ ap (λ l. l ++ N.added_text c (content ++ more) piece) (sym (laws.emits content more front)) ∙ sym (grind arith)
-      ∙ ap e regroup ∙ laws.emits content (more ++ piece) (subst (BeginsData c) regroup all))
+      ∙ ap e regroup ∙ laws.emits content (more ++ piece) (search N.rules))
 
   fills_none : {p : At} → IsBetween p.seen → N.HasRoom p.held → N.Counts p.held
       → over (N.FillsData c content) p p []
@@ -161,14 +161,14 @@ pub record Filled (c : Conversion) (content kept : List ℕ) (p q : At) (n left 
 pub filled_none : {c : Conversion} {content kept : List ℕ} {n : ℕ} {p : At} → BeginsData c content → kept ≡ conversion_rest c content
     → IsBetween p.seen → N.HasRoom p.held → N.Counts p.held → Filled c content kept p p n n
 filled_none begun is between few delivered =
-    record { more = []; fills = fills_none _ _ begun between few delivered; counted = omega arith; kept_is = search N.rules }
+    record { more = []; fills = search (N.rules, fills_none); counted = omega arith; kept_is = search N.rules }
 
 module _ {c : Conversion} {content kept : List ℕ} {p q : At} {n left : ℕ} (begun : BeginsData c content) (x : Filled c content kept p q n left) where
   pub filled_more : {kept' : List ℕ} {r : At} {k : ℕ} → k ≤ left → N.HasRoom r.held → N.Counts r.held
       → over (N.TakesData c (content ++ x.more) kept') q r k → Filled c content kept' p r n (left - k)
   filled_more most few delivered y = record {
     more = x.more ++ y.piece;
-    fills = fills_more c content begun few delivered x.fills y;
+    fills = search (N.rules, fills_more);
     counted = omega (arith, N.length-append x.more y.piece);
     kept_is = grind (arith, N.append_assoc);
   }

@@ -17,21 +17,21 @@ abbrev pub emitted : Conversion → List ℕ → List ℕ
 emitted c = N.emit (N.conversion_rest c) (N.conversion_text c)
 
 -- The states of the bytes of some content, by how many follow and what was read: each next byte is an element, and free of faults where text begins
--- so, and where the content is good at its end.
-pub record HoldsContent (column : ℕ) (c : Conversion) (state : ℕ → List ℕ → CellPart) (Good : List ℕ → Type 0) : Type 0 where
-  pub size : (r : ℕ) (d : List ℕ) → N.cell_size (state (suc r) d) ≡ 1
-  pub end : (r : ℕ) (d : List ℕ) → N.cell_end (state (suc r) d) ≡ Some N.MessageEnded
-  pub text : (r : ℕ) (d : List ℕ) → N.field_so_far (state (suc r) d) ≡ Some (open_field c d)
-  pub add : (r : ℕ) (d : List ℕ) (x : ℕ) → N.cell_add (state (suc r) d) (x ∷ []) ≡ state r (d ++ x ∷ [])
-  pub free : (r : ℕ) (d : List ℕ) (x : ℕ) → N.is_begun c (d ++ x ∷ []) ≡ true → (r ≡ 0 → Good (d ++ x ∷ []))
-      → N.cell_fault column (state (suc r) d) (x ∷ []) ≡ N.None
-  pub bad : (r : ℕ) (d : List ℕ) (x : ℕ) → N.is_begun c (d ++ x ∷ []) ≡ false → N.cell_fault column (state (suc r) d) (x ∷ []) ≡ Some (BadText column)
-  pub ends : (d : List ℕ) (x : ℕ) → Good (d ++ x ∷ []) ⊎ (emitted c (d ++ x ∷ []) ≡ emitted c d)
-  pub whole : (last : Bool) (d : List ℕ) → Good d → (more : List ℕ)
-      × (after_comma column (open_field c d) ++ more ≡ cell_so_far column last (state 0 d))
+-- so, and where the content is good at its end, which has a tail.
+pub record HoldsContent (column : ℕ) (c : Conversion) (state : ℕ → List ℕ → CellPart) (Good : List ℕ → Type 0) (tail : Bool → List ℕ → List ℕ) : Type 0
+  where
+    pub size : (r : ℕ) (d : List ℕ) → N.cell_size (state (suc r) d) ≡ 1
+    pub end : (r : ℕ) (d : List ℕ) → N.cell_end (state (suc r) d) ≡ Some N.MessageEnded
+    pub text : (r : ℕ) (d : List ℕ) → N.field_so_far (state (suc r) d) ≡ Some (open_field c d)
+    pub add : (r : ℕ) (d : List ℕ) (x : ℕ) → N.cell_add (state (suc r) d) (x ∷ []) ≡ state r (d ++ x ∷ [])
+    pub free : (r : ℕ) (d : List ℕ) (x : ℕ) → N.is_begun c (d ++ x ∷ []) ≡ true → (r ≡ 0 → Good (d ++ x ∷ []))
+        → N.cell_fault column (state (suc r) d) (x ∷ []) ≡ N.None
+    pub bad : (r : ℕ) (d : List ℕ) (x : ℕ) → N.is_begun c (d ++ x ∷ []) ≡ false → N.cell_fault column (state (suc r) d) (x ∷ []) ≡ Some (BadText column)
+    pub ends : (d : List ℕ) (x : ℕ) → Good (d ++ x ∷ []) ⊎ (emitted c (d ++ x ∷ []) ≡ emitted c d)
+    pub whole : (last : Bool) (d : List ℕ) → Good d → after_comma column (open_field c d) ++ tail last d ≡ cell_so_far column last (state 0 d)
 
-module _ {column : ℕ} {c : Conversion} {state : ℕ → List ℕ → CellPart} {Good : List ℕ
-    → Type 0} (last : Bool) (holds : HoldsContent column c state Good) where
+module _ {column : ℕ} {c : Conversion} {state : ℕ → List ℕ → CellPart} {Good : List ℕ → Type 0}
+    {tail : Bool → List ℕ → List ℕ} (last : Bool) (holds : HoldsContent column c state Good tail) where
   -- the bytes of some content are elements
   pub content_spelt : (d bytes : List ℕ) (m r : ℕ) → m ≡ length bytes + r → BeginsData c (d ++ bytes) → (r ≡ 0 → 0 < length bytes → Good (d ++ bytes))
       → Spelt (cell column) (state m d) bytes (state r (d ++ bytes))
@@ -151,8 +151,7 @@ module _ {column : ℕ} {c : Conversion} {state : ℕ → List ℕ → CellPart}
         elim (holds.ends _ x) [
           | inl whole ↦
               (let fine = subst Good (sym same) whole in
-              let w = holds.whole last _ fine in
-              broken _ _ _ (content_spelt d _ _ 0 (omega arith) begun (λ _ _. fine)) takes between (text_closed d _ _ r begun w.1)
+              broken _ _ _ (content_spelt d _ _ 0 (omega arith) begun (λ _ _. fine)) takes between (text_closed d _ _ r begun (holds.whole last _ fine))
               (N.WritesPrefix-longer h i _ _ _ breaks))
           | inr none ↦
               (let front = (N.joins_by_name c).front _ _ (subst (BeginsData c) same begun) in
@@ -200,13 +199,13 @@ module _ {column : ℕ} {c : Conversion} {state : ℕ → List ℕ → CellPart}
     last_spelt good = grind (arith, content_spelt)
 
     -- all of it was read and its text put, and what ends it
-    pub ends_path : {j : SinkView} (tail : List ℕ) → Good all_content
-        → after_comma column (open_field c all_content) ++ tail ≡ cell_so_far column last (state 0 all_content) → Puts q.held j tail
+    pub ends_path : {j : SinkView} → Good all_content → Puts q.held j (tail last all_content)
         → Path (cell column) (cell_so_far column last) (state m d) p (record q { held = j }) (state 0 all_content)
-    ends_path tail good whole puts =
+    ends_path good puts =
+        let whole = holds.whole last _ good in
         path_both front_path (record {
           bytes = x.takes.piece;
-          made = added_text c _ _ ++ tail;
+          made = added_text c _ _ ++ tail last all_content;
           writes = grind (arith, last_spelt, text_closed);
           takes = grind arith;
           puts = N.Puts-trans _ q.held _ _ _ x.takes.puts puts;
@@ -214,13 +213,12 @@ module _ {column : ℕ} {c : Conversion} {state : ℕ → List ℕ → CellPart}
         })
 
     -- a write of what ends it failed
-    pub ends_break : {j : SinkView} {stop : Stop} (tail : List ℕ) → Good all_content
-        → after_comma column (open_field c all_content) ++ tail ≡ cell_so_far column last (state 0 all_content) → N.WritesPrefix q.held j tail stop
+    pub ends_break : {j : SinkView} {stop : Stop} → Good all_content → N.WritesPrefix q.held j (tail last all_content) stop
         → StopsField (state m d) column last p.seen q.seen p.place p.held j true stop
-    ends_break _ good whole breaks =
+    ends_break good breaks =
         let taken = rw (sym (append-nil x.takes.piece)) at x.takes.takes in
         path_stops front_path (broken _ _ _ _ _ _ _ _ x.fills.few x.fills.delivered _ [] _ (last_spelt good) taken x.takes.between
-        (text_closed _ _ _ _ x.takes.begun whole) (N.WritesPrefix-after _ _ _ _ _ _ x.takes.puts breaks))
+        (text_closed _ _ _ _ x.takes.begun (holds.whole last _ good)) (N.WritesPrefix-after _ _ _ _ _ _ x.takes.puts breaks))
 
     -- where the content isn't whole, its last byte is refused
     pub ends_refused : ((e : List ℕ) (y : ℕ) → is_fit c (e ++ y ∷ []) ≡ false → N.cell_fault column (state 1 e) (y ∷ []) ≡ Some (BadText column))
@@ -257,7 +255,7 @@ module _ (column : ℕ) (c : Conversion) where
       ap (λ l. after_comma column (open_field c d) ++ l) (sym (append_assoc rest close _)) ∙ sym (append_assoc _ (rest ++ close) _)
       ∙ ap (λ l. l ++ N.end_after last) (grind (arith, after_append, N.open_closes))
 
-  pub short_holds : HoldsContent column c (short_left c) (λ d. is_fit c d ≡ true)
+  pub short_holds : HoldsContent column c (short_left c) (λ d. is_fit c d ≡ true) (ending c (is_quoted c))
   short_holds = record {
     size = grind arith;
     end = grind arith;
@@ -266,14 +264,14 @@ module _ (column : ℕ) (c : Conversion) where
     free = grind arith;
     bad = grind arith;
     ends = λ d x. fit_or_none d x refl;
-    whole = λ last d fit. (ending c _ last d, ending_text last d fit);
+    whole = ending_text;
   }
 
   -- where the content isn't whole, its last byte is refused
   pub short_refused : (e : List ℕ) (y : ℕ) → is_fit c (e ++ y ∷ []) ≡ false → N.cell_fault column (short_left c 1 e) (y ∷ []) ≡ Some (BadText column)
   short_refused e y unfit = grind arith
 
-  pub chunk_holds : (total : Option ℕ) → HoldsContent column c (chunk_left c total) (λ _. Unit {0})
+  pub chunk_holds : (total : Option ℕ) → HoldsContent column c (chunk_left c total) (λ _. Unit {0}) (λ _ _. [])
   chunk_holds _ = search N.rules
 
 -- ---- no content
@@ -391,12 +389,12 @@ module _ (column : ℕ) (last : Bool) (c : Conversion) where
     pub short_whole : {k : SinkView} → N.IsFit c all → Puts q.held k (ending c (is_quoted c) last all)
         → PutsField (short_left c n []) column last p.seen q.seen p.place q.place p.held k
     short_whole fit puts = let good = (N.fit_by_test c all).1 fit in
-        field_of (ends_path last (short_holds column c) x _ good (grind (arith, ending_text)) puts)
+        field_of (ends_path last (short_holds column c) x good puts)
 
     pub short_end_stops : {k : SinkView} {failed : Bool} {stop : Stop} → StopsEnding c (is_quoted c) last all column (q.place - 1) q.held k failed stop
         → StopsField (short_left c n []) column last p.seen q.seen p.place p.held k failed stop
     short_end_stops (inl z) = let good = (N.fit_by_test c all).1 z.0 in
-        rw z.2 (ends_break last (short_holds column c) x _ good (grind (arith, ending_text)) z.1)
+        rw z.2 (ends_break last (short_holds column c) x good z.1)
     short_end_stops (inr z) = rw (z.3, z.2, z.1) (ends_refused last (short_holds column c) x (short_refused column c) (grind (arith, N.fit_by_test)))
 
 -- ---- values in chunks
@@ -455,5 +453,5 @@ module _ {column : ℕ} {last : Bool} {c : Conversion} {total : Option ℕ} {kep
         counted = grind (arith, N.length-append);
         begun = grind arith;
         kept_is = cc;
-        path = path_both (chunk_path is some delivered) (ends_path last (chunk_holds column c total) z [] tt (append-nil _) (N.Puts-none r.held most));
+        path = path_both (chunk_path is some delivered) (ends_path last (chunk_holds column c total) z tt (N.Puts-none r.held most));
       }

@@ -293,7 +293,7 @@ token_is = grind arith
 -- so less is left of the packets that may come, or of the row
 pub row_shrinks : (most most' p q r count count' from after : ℕ) → count' ≡ count → most' ≡ most → r ≤ most' → after ≤ count' → count ≤ 65535 → p ≤ q
     → (q ≤ r) × ((q < r) ⊎ (from < after)) → (most' - r) * 65536 + (count' - after) < (most - p) * 65536 + (count - from)
-row_shrinks most most' p q r count count' from after same even within most_columns few step (on, x) = grind arith
+row_shrinks = grind arith
 
 -- ---- NBCROWs that are whole in the packet
 
@@ -389,8 +389,7 @@ module _ {R W : Type 0} (remaining : N.Tells R) (contents : N.Tells W) where
     module _ (new : Rows R W) where
       -- it doesn't go back
       next_place : {u : ⊤} (null : Bool) → N.NextRead remaining contents at kind null old new (Ok u) → old.payload.now.place ≤ new.payload.now.place
-      next_place true x = grind arith
-      next_place false x = omega arith
+      next_place = grind arith
 
       module _ (p : At) (in_row : IsInRow old) (near : NearsCells old.row_format.now.charset (Bitmap columns)
           (marked (drop at.column columns) nulls at.column) p (here old) at.column) where
@@ -401,7 +400,7 @@ module _ {R W : Type 0} (remaining : N.Tells R) (contents : N.Tells W) where
         next_nears : {u : ⊤} (null : Bool) → nulls at.column ≡ null → LeavesRows old new (Ok u) → N.NextRead remaining contents at kind null old new (Ok u)
             → NearsCells old.row_format.now.charset (Bitmap columns) left p (here new) (at.column + 1)
         next_nears true is leaves y = rw y.0 (null_nears (left_here true is) (rw last_is at y.1.gives))
-        next_nears false is leaves y = cell_nears (N.between_of remaining new.payload.now leaves.payload.going) (omega arith)
+        next_nears false is leaves y = cell_nears (search (N.rules, N.between_of)) (omega arith)
             (all_put refl in_row.sink.ready.2 (left_here false is)) (cell_read y)
 
         next_stops : {stop : Stop} (null : Bool) → nulls at.column ≡ null → N.NextRead {U = ⊤} remaining contents at kind null old new (Err stop)

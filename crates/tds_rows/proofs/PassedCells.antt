@@ -26,7 +26,8 @@ module _ {s t : CellPart} {a b d : PayloadView} {place middle : ℕ} (x : StepsO
 any_begins : {c : Conversion} {size : ℕ} → AnyData c size → (bytes : List ℕ) → N.BeginsData c bytes
 any_begins any bytes = (N.begun_by_test _ bytes).0 (any.begun bytes)
 
-module _ {c : Conversion} {state : ℕ → List ℕ → CellPart} {Good : List ℕ → Type 0} (holds : N.LongValues.HoldsContent return_column c state Good)
+module _ {c : Conversion} {state : ℕ → List ℕ → CellPart} {Good : List ℕ → Type 0} {tail : N.Bool → List ℕ → List ℕ}
+    (holds : N.LongValues.HoldsContent return_column c state Good tail)
     (begins : (bytes : List ℕ) → N.BeginsData c bytes) where
   -- all the data was handed out
   data_steps : {m : ℕ} {a b : PayloadView} {place place' : ℕ} (d : List ℕ) (x : PassesData m a b place place') → Good (d ++ x.bytes)

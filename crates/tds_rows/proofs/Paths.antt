@@ -80,7 +80,7 @@ module _ {S : Type 0} {g : N.Grammar S Fault} {text : S → List ℕ} where
     bytes = x.bytes ++ y.bytes;
     made = x.made ++ y.made;
     writes = writes_both x.writes y.writes;
-    takes = N.takes_both p.seen q.seen r.seen x.bytes y.bytes x.takes y.takes;
+    takes = search (N.rules, N.takes_both);
     puts = N.Puts-trans _ _ _ _ _ x.puts y.puts;
     place_is = grind (N.arith, N.length-append);
   }

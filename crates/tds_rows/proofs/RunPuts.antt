@@ -60,11 +60,11 @@ module _ {R W U : Type 0} {column : ℕ} {last : Bool} {bytes text : List ℕ} {
         takes = rw (N.append-nil, x.joined) takes;
         between = between;
         middle = held contents before;
-        few = going.ready.1 going.writing;
-        puts = N.RowSteps.none_put kind _ column last x.at _ x.quiet going.ready.2;
+        few = search N.rules;
+        puts = search (N.rules, N.RowSteps.none_put);
         more = text;
         text_is = grind arith;
-        breaks = puts.gives going.writing;
+        breaks = search N.rules;
       },
       puts.failed,
     );

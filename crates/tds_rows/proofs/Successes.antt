@@ -53,7 +53,7 @@ none_stops_reading : {S : Type 0} {a b : N.PayloadView} {place : ℕ} {at : S} {
     → Brings a (front ++ more) → Spelt g from front to → g.size to ≡ 0
     → (Rose a.failures b.failures → ⊥) → N.StopsReading g from a b place at stop → ⊥
 none_stops_reading {stop = stop} g from to front more brings spelt none reads x =
-    let there = stopped_there g from to _ _ front more brings (longest_end g from to front more spelt none) reads _ _ stop x in
+    let there = stopped_there g from to _ _ front more brings (search (N.rules, longest_end)) reads _ _ stop x in
     let some = N.stops_size g from _ _ _ _ stop x in
     omega (arith, ap g.size there)
 
