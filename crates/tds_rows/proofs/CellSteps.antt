@@ -1,6 +1,6 @@
 -- The cells of scalar kinds, as they are read.
 use Rattle.tds_rows.proofs as N
-use N.{◌≡◌, ◌≢◌, ℕ, ◌+◌, ◌<◌, ◌≤◌, true, List, [], ◌∷◌, ◌++◌, length, refl, ap, arith, Ok, Some, None, Kind, Stop, Takes, StallsCell, if◌then◌else◌}
+use N.{◌≡◌, ◌≢◌, ℕ, ◌+◌, ◌<◌, ◌≤◌, true, List, [], ◌∷◌, ◌++◌, length, refl, ap, arith, Some, None, Kind, Stop, Takes, StallsCell, if◌then◌else◌}
 use N.Words.{cell}
 
 -- the next element of a cell is cut

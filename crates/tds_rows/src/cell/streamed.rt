@@ -94,6 +94,7 @@ struct LongValue<'r, 'p, 'j, 'w, 's, J, R, W> {
     sink: &'w mut Sink<'s, W>,
 }
 
+#[tactic(auto, using(tds_packet::proofs::Passing::passed, crate::proofs::Numbers::stops_after, crate::proofs::Numbers::read_stops, crate::proofs::Numbers::length_blames, crate::proofs::Numbers::total_blames))]
 impl<'r, 'p, 'j, 'w, 's, J: Joiner, R: Read, W: Write> LongValue<'r, 'p, 'j, 'w, 's, J, R, W> {
     // Hands the next piece of the data, at most `most` bytes, to the joiner in place, and returns its length.
     fn push_piece(&mut self, most: u64) -> Result<u64, Stop>

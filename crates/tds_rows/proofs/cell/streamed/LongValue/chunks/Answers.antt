@@ -83,6 +83,3 @@ loop-n-preserved g c =
           streamed_run (omega arith) (N.LongValues.streamed_more _ suits.unit_is x r.1 free r.3 c.if-n-eq0.false l.leaves.sink.ready.2 done.leaves.sink.ready.2
           (search rules)) (run_at suits run.chunks _ _);
     }
-
-pub returns-in_err-n-clause-blames : goal.returns-in_err-n-clause-blames
-returns-in_err-n-clause-blames g c = grind (arith, N.Numbers.stops_after, N.Numbers.read_stops, N.Numbers.length_blames)

@@ -30,8 +30,5 @@ returns-in_ok-put_opening-in-Some-clause-field g c = λ conversion suits. rw c.i
     N.MatchResult-weaker c.chunks.result (c.chunks.ensures.field conversion suits) (λ _ y. field_puts start y)
     (λ stop y. N.Paths.path_stops start y))
 
-pub returns-in_err-total-in-Chunked-clause-blames : goal.returns-in_err-total-in-Chunked-clause-blames
-returns-in_err-total-in-Chunked-clause-blames g c = search (N.rules, N.passed, N.Numbers.read_stops, N.Numbers.length_blames, N.Numbers.total_blames)
-
 pub returns-in-Short-clause-field : goal.returns-in-Short-clause-field
 returns-in-Short-clause-field g c = λ conversion suits. rw c.in-Short.is (search N.rules)

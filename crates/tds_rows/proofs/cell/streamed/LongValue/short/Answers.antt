@@ -57,6 +57,3 @@ returns-clause-field g c = λ conversion suits.
     (c.put_end-2.ensures.end conversion all suits y.takes.kept_is y.takes.begun) in
     rw c.put_end-2.ensures.payload (N.MatchResult-weaker _ ended (λ _ z. field_puts start (short_whole _ _ _ y z.0 z.1))
     (λ stop z. N.Paths.path_stops start (N.LongValues.short_end_stops _ _ _ y z)))
-
-pub returns-in_err-n-clause-blames : goal.returns-in_err-n-clause-blames
-returns-in_err-n-clause-blames g c = grind (N.arith, N.Numbers.read_stops, N.Numbers.length_blames)
