@@ -1,6 +1,6 @@
 -- What joiners do with the pieces of some content, in the words of their conversion.
 use Rattle.tds_rows.proofs as N
-use N.{◌≡◌, ◌∙◌, ℕ, ◌+◌, ◌-◌, ◌<◌, ◌≤◌, Bool, List, [], ◌++◌, length, inr, sym, ap, subst, arith, Err, Stop, Takes, IsBetween, BeginsData, Conversion}
+use N.{◌≡◌, ◌∙◌, ℕ, ◌+◌, ◌-◌, ◌<◌, ◌≤◌, Bool, List, [], ◌++◌, length, inr, sym, ap, arith, Err, Stop, Takes, IsBetween, BeginsData, Conversion}
 use N.{IsFit, conversion_rest, emit, SinkView, joins_by_name}
 use N.Paths.{At, over, until}
 use Rattle.tds_csv.specs.declared.joiners.JoinFault.TheVariants as join_faults
@@ -25,14 +25,14 @@ module _ {fit begins : List ℕ → Type 0} {rest text : List ℕ → List ℕ} 
           place_is = at;
           begun = all;
           puts = grind arith;
-          kept_is = x.withheld ∙ suits.rest_is _ ∙ ap (λ o. conversion_rest c (o ++ piece)) is ∙ sym ((joins_by_name c).keeps content piece all);
+          kept_is = grind (arith, (joins_by_name c).keeps content piece all);
         }
 
     pub piece_added : {new piece to : List ℕ} {made : ℕ} → N.WritesAdded begins rest text old new piece to made
         → BeginsData c (content ++ piece) × (N.take made to ≡ N.added_text c content piece) × (new ≡ conversion_rest c (content ++ piece))
     piece_added {piece = piece} x =
         let all = begun_with piece x.begun in
-        (all, grind arith, x.withheld ∙ suits.rest_is _ ∙ ap (λ o. conversion_rest c (o ++ piece)) is ∙ sym ((joins_by_name c).keeps content piece all))
+        (all, grind arith, grind (arith, (joins_by_name c).keeps content piece all))
 
     piece_bad : {new : List ℕ} {k : ℕ} {h i : SinkView} {column most : ℕ} {a b : N.PayloadView} {place : ℕ} (piece : List ℕ) → length piece ≤ most
         → Takes a b piece 1 → IsBetween b → N.TakesUpTo begins rest text old new h i piece k
@@ -48,12 +48,12 @@ module _ {fit begins : List ℕ → Type 0} {rest text : List ℕ → List ℕ} 
           bad = bad;
           ahead = N.drop _ piece;
           within = omega arith;
-          takes = subst (λ l. Takes a b l 1) split takes;
+          takes = rw split at takes;
           between = between;
           begun = begun_with good x.good.begun;
           no_text = λ so.
               let inward = (joins_by_name c).inward content _
-              (subst (BeginsData c) (N.append_assoc content good _) so) in
+              (rw N.append_assoc at so) in
               x.bad ((suits.begins_is _).1 (rw (is, N.take_more piece _ 0 within) inward));
           puts = grind arith;
           stop_is = cc;
@@ -93,7 +93,7 @@ module _ {fit begins : List ℕ → Type 0} {rest text : List ℕ → List ℕ} 
     end_whole x = grind (arith, fit_whole)
 
     end_part : {new : List ℕ} {h i : SinkView} → N.LeavesPart fit old new h i → IsFit c content → ⊥
-    end_part x whole = x.part ((suits.fit_is old).1 (subst (IsFit c) (sym is) ((joins_by_name c).fit_rest content whole)))
+    end_part x whole = x.part ((suits.fit_is old).1 (rw (← is) at ((joins_by_name c).fit_rest content whole)))
 
     pub end_stops : {column place : ℕ} {h i : SinkView} {before after : Bool} (new : List ℕ) (unit' : ℕ) (last : Bool) (fault : N.JoinFault)
         → before ≡ N.false → after ≡ N.is_stopped {U = Unit {0}} (Err fault) → N.EndsBy {U = Unit {0}} unit' fit text old new h i before (Err fault)
@@ -107,22 +107,16 @@ module _ {fit begins : List ℕ → Type 0} {rest text : List ℕ → List ℕ} 
 
 module _ (c : Conversion) (content : List ℕ) (begun : BeginsData c content) where
   added_none : N.added_text c content [] ≡ []
-  added_none =
-      N.append_cancel_left _ _ []
-      (sym ((joins_by_name c).emits content [] (subst (BeginsData c) (sym (N.append-nil content)) begun))
-      ∙ ap (emit (conversion_rest c) (N.conversion_text c)) (N.append-nil content) ∙ sym (N.append-nil _))
+  added_none = N.append_cancel_left (emit (conversion_rest c) (N.conversion_text c) content) _ []
+      (grind (arith, N.append-nil, (joins_by_name c).emits content [] (rw N.append-nil begun)))
 
   added_both : (more piece : List ℕ) → BeginsData c ((content ++ more) ++ piece)
       → N.added_text c content more ++ N.added_text c (content ++ more) piece ≡ N.added_text c content (more ++ piece)
   added_both more piece all =
-      let e = emit (conversion_rest c) (N.conversion_text c) in
       let laws = joins_by_name c in
-      let regroup = N.append_assoc content more piece in
-      let front = laws.front _ piece all in
-      N.append_cancel_left _ _ _
-      (sym (N.append_assoc (e content) _ _)
-      ∙ ap (λ l. l ++ N.added_text c (content ++ more) piece) (sym (laws.emits content more front)) ∙ sym (grind arith)
-      ∙ ap e regroup ∙ laws.emits content (more ++ piece) (search N.rules))
+      let first = laws.emits content more (laws.front _ piece all) in
+      let both = laws.emits content (more ++ piece) (rw N.append_assoc at all) in
+      N.append_cancel_left (emit (conversion_rest c) (N.conversion_text c) content) _ _ (grind (arith, N.append_assoc, laws.emits _ piece all))
 
   fills_none : {p : At} → IsBetween p.seen → N.HasRoom p.held → N.Counts p.held
       → over (N.FillsData c content) p p []

@@ -2,7 +2,7 @@
 use Rattle.tds_rows.proofs as N
 use N.{◌≡◌, ◌∙◌, inl, inr, ℕ, ◌-◌, ◌<◌, Bool, List, [], ◌∷◌, ◌++◌, length, sym, ap, arith, append-nil, Option, Stop, PayloadView, Conversion}
 use N.{is_quoted, after_comma, SinkView, Puts, held, CellPart, PutsField, cell_so_far, ending, opening, ◌≢◌, ◌+◌, ChunkLength, ◌⊎◌, suc, true, false}
-use N.{refl, subst, append_assoc, Some, BadText, Spelt, BeginsData, is_fit, open_field, added_text}
+use N.{refl, append_assoc, Some, BadText, Spelt, BeginsData, is_fit, open_field, added_text}
 use N.Words.{cell}
 use N.Numbers.{Next, short_left, chunk_end, chunk_left}
 use N.Paths.{At, Halt, Path, StopsEnding, StopsField, path_both, path_stops, over, until}
@@ -39,9 +39,9 @@ module _ {column : ℕ} {c : Conversion} {state : ℕ → List ℕ → CellPart}
   content_spelt d (x ∷ xs) m r is begun good =
       let k = length xs + r in
       let next : m ≡ suc k = omega arith in
-      let good_one : k ≡ 0 → Good _ = λ none. subst (λ l. Good (d ++ x ∷ l)) (N.nil_from_length xs (omega arith)) (good (omega arith) (omega arith)) in
-      let regroup = sym (append_assoc d _ xs) in
-      let more_begun = subst (BeginsData c) regroup begun in
+      let good_one : k ≡ 0 → Good _ = λ none. rw (N.nil_from_length xs (omega arith)) at (good (omega arith) (omega arith)) in
+      let regroup = sym (append_assoc d (x ∷ []) xs) in
+      let more_begun = rw regroup at begun in
       let more = content_spelt _ xs k r refl more_begun (grind arith) in
       let one = N.Spelt-step _ _ _ _ (omega arith) (sym (holds.size k d))
       (holds.free k d x ((N.begun_by_test c _).1 ((N.joins_by_name c).front _ xs more_begun)) good_one) (holds.add k d x) in
@@ -144,19 +144,19 @@ module _ {column : ℕ} {c : Conversion} {state : ℕ → List ℕ → CellPart}
         let x = N.breaks_somewhere _ _ (line_grows column last) _ a b h i _ between to _ _ _ spelt takes few delivered text_is breaks in
         record { at = x.0; cause = grind arith }
 
-    piece_broken_at : (ahead p : List ℕ) (x : ℕ) → length (p ++ x ∷ []) ≡ suc r → N.Takes a b ((p ++ x ∷ []) ++ ahead) 1 → N.IsBetween b
-        → BeginsData c (d ++ (p ++ x ∷ [])) → N.WritesPrefix h i (added_text c d (p ++ x ∷ [])) stop → Stopped true
-    piece_broken_at _ p x all takes between begun breaks =
-        let same = sym (append_assoc d p _) in
-        elim (holds.ends _ x) [
+    piece_broken_at : (x : N.WritesPrefixOfData c d (suc r) a b h i stop) (p : List ℕ) (y : ℕ) → x.good ≡ p ++ y ∷ [] → length x.good ≡ suc r
+        → Stopped true
+    piece_broken_at x p y is all =
+        let same : d ++ x.good ≡ (d ++ p) ++ y ∷ [] = rw (is, append_assoc) in
+        elim (holds.ends (d ++ p) y) [
           | inl whole ↦
-              (let fine = subst Good (sym same) whole in
-              broken _ _ _ (content_spelt d _ _ 0 (omega arith) begun (λ _ _. fine)) takes between (text_closed d _ _ r begun (holds.whole last _ fine))
-              (N.WritesPrefix-longer h i _ _ _ breaks))
+              (let fine = rw (← same) at whole in
+              broken x.good _ _ (content_spelt d _ _ 0 (omega arith) x.begun (λ _ _. fine)) x.takes x.between
+              (text_closed d _ _ r x.begun (holds.whole last _ fine)) (N.WritesPrefix-longer h i _ _ _ x.breaks))
           | inr none ↦
-              (let front = (N.joins_by_name c).front _ _ (subst (BeginsData c) same begun) in
-              broken p _ _ (grind (arith, front_spelt, N.length-append)) (rw append_assoc at takes) between
-              (text_grown d p r 0 front) (grind (arith, adds_none)))
+              (let front = (N.joins_by_name c).front (d ++ p) _ (rw same at x.begun) in
+              broken p _ _ (front_spelt d p 0 (omega (arith, N.length-append p (y ∷ []), ap length is)) front) (rw (is, append_assoc) at x.takes) x.between
+              (text_grown d p r 0 front) (rw (is, adds_none d p y (rw is at x.begun) none) at x.breaks))
         ]
 
     piece_broken : N.WritesPrefixOfData c d (suc r) a b h i stop → Stopped true
@@ -165,9 +165,8 @@ module _ {column : ℕ} {c : Conversion} {state : ℕ → List ℕ → CellPart}
           | inl less ↦ broken x.good x.ahead _ (front_spelt d x.good _ (omega arith) x.begun) x.takes x.between
               (text_grown d x.good r (r - length x.good) x.begun) x.breaks
           | inr more ↦
-              (let all : length x.good ≡ suc r = omega arith in
-              let s = split_last r x.good (omega arith) in
-              piece_broken_at x.ahead s.0 s.1 (rw s.2 at all) (rw s.2 at x.takes) x.between (rw s.2 at x.begun) (rw s.2 at x.breaks))
+              (let s = split_last r x.good (omega arith) in
+              piece_broken_at x s.0 s.1 s.2 (omega arith))
         ]
 
     piece_stops : {failed : Bool} → N.StopsData c d column (suc r) a b place h i failed stop → Stopped failed
@@ -242,10 +241,6 @@ module _ {column : ℕ} {c : Conversion} {state : ℕ → List ℕ → CellPart}
 -- ---- the content of a short value, and of a chunk
 
 module _ (column : ℕ) (c : Conversion) where
-  fit_or_none : (d : List ℕ) (x : ℕ) {b : Bool} → is_fit c (d ++ x ∷ []) ≡ b → (is_fit c (d ++ x ∷ []) ≡ true)
-      ⊎ (emitted c (d ++ x ∷ []) ≡ emitted c d)
-  fit_or_none d x _ = grind (arith, N.unfit_adds_none)
-
   -- the end of a value that is whole
   pub ending_text : (last : Bool) (d : List ℕ) → is_fit c d ≡ true
       → after_comma column (open_field c d) ++ ending c (is_quoted c) last d ≡ N.in_line column last (N.long_field c d)
@@ -256,16 +251,7 @@ module _ (column : ℕ) (c : Conversion) where
       ∙ ap (λ l. l ++ N.end_after last) (grind (arith, after_append, N.open_closes))
 
   pub short_holds : HoldsContent column c (short_left c) (λ d. is_fit c d ≡ true) (ending c (is_quoted c))
-  short_holds = record {
-    size = grind arith;
-    end = grind arith;
-    text = grind arith;
-    add = grind arith;
-    free = grind arith;
-    bad = grind arith;
-    ends = λ d x. fit_or_none d x refl;
-    whole = ending_text;
-  }
+  short_holds = search (N.rules, N.unfit_adds_none, ending_text)
 
   -- where the content isn't whole, its last byte is refused
   pub short_refused : (e : List ℕ) (y : ℕ) → is_fit c (e ++ y ∷ []) ≡ false → N.cell_fault column (short_left c 1 e) (y ∷ []) ≡ Some (BadText column)

@@ -13,10 +13,6 @@ use Rattle.tds_cells.proofs.GrammarTexts.{writes_none}
 use Rattle.tds_cells.proofs.RowFormatSteps.{TakesColumn, last_one, next_column}
 use Rattle.tds_cells.proofs.RunSteps.{rows_after, row_among, row_token}
 
--- text that doesn't fill the block waits
-pub all_waits : (h j : N.SinkView) (text : List ℕ) → Puts h j text → length h.waiting + length text < 4096 → length j.waiting ≡ length h.waiting + length text
-all_waits h j text puts few = omega (arith, ap length puts.2.1, N.length-append h.waiting text, N.length-append puts.0 j.waiting)
-
 -- ---- what was read and put at once could have been so one after the other
 
 -- Bytes were handed out without a packet, and text was put that waits.
@@ -117,7 +113,7 @@ module _ (charset : Charset) (start : RowPart) (columns : List Column) (nulls : 
             let there : At = record { seen = t.0; place = q.place + length front; held = m.0 } in
             let passes : Passes q there front first = grind arith in
             let later : Breaks there e back rest more = grind arith in
-            column_breaks _ last (marked_nears from n before passes x) later
+            column_breaks _ {q = there} last (marked_nears from n {r = there} before passes x) later
       ]
 
 -- ---- a reading of rows, from call to call

@@ -1,6 +1,6 @@
 -- The numbers of a long value, its length or total and those of its chunks, as elements of its cell: how each is judged, and where it leads.
 use Rattle.tds_rows.proofs as N
-use N.{◌-◌, ◌%◌, ◌||◌, ◌≡◌, ◌≢◌, ◌∙◌, ◌⊎◌, ℕ, ◌+◌, ◌<◌, List, [], refl, arith, Option, Some, None, ◌==◌, Fault, Stop, ◌^◌, CellPart, ChunkLength, Total}
+use N.{◌-◌, ◌%◌, ◌||◌, ◌≡◌, ◌≢◌, ◌⊎◌, ℕ, ◌+◌, ◌<◌, List, [], refl, arith, Option, Some, None, ◌==◌, Fault, Stop, ◌^◌, CellPart, ChunkLength, Total}
 use N.{if◌then◌else◌}
 use N.Words.{cell}
 use Rattle.tds_packet.specs.declared.payload.Payload.{Payload as Input}
@@ -45,7 +45,7 @@ number_stops : {column size place : ℕ} {s : CellPart} {fault : ℕ → Option 
 number_stops {column = column} {place = place} {s = s} {a = a} {b = b} {stop = stop} some is _ first (N.inl x) =
     let r = x.reads in
     N.subst (λ t. N.StopsReading (cell column) s a b place s t) (grind arith)
-    (N.refused_at_once _ s a b _ _ _ (omega arith) (r.whole ∙ N.sym is) (first _ x.n _ r.number x.first) r.takes r.between)
+    (N.refused_at_once _ s a b _ _ _ (omega arith) (omega arith) (first _ x.n _ r.number x.first) r.takes r.between)
 number_stops _ is end _ (N.inr x) = grind arith
 
 -- ---- the length of a short value, a total, and the length of a chunk

@@ -85,7 +85,7 @@ pub passes_more : {m n k : ℕ} {a b d : PayloadView} {place middle place' : ℕ
 passes_more {m = m} {n = n} {a = a} {b = b} {d = d} sum x y = record {
   bytes = x.bytes ++ y.bytes;
   counted = grind (arith, N.length-append);
-  takes = N.subst (λ j. N.Takes a d (x.bytes ++ y.bytes) j) (omega arith) (N.Takes-trans a b d _ _ m n (omega arith) x.takes y.takes);
+  takes = rw (sum, ← x.counted) (N.Takes-trans a b d _ _ m n (omega arith) x.takes y.takes);
   between = y.between;
   place_is = omega arith;
 }

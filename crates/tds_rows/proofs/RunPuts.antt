@@ -89,6 +89,14 @@ module _ (h j : N.SinkView) (room written : List ℕ) (n : ℕ) (whole : length 
   pub kept_text : (made : ℕ) → N.Puts lent_held j (take made (N.drop n lent)) → N.Puts h j (take made written)
   kept_text _ x = grind (arith, N.spare_before, N.spare_written)
 
+  -- and the block has so much room left
+  pub room_left : (made : ℕ) → N.Puts lent_held j (take made (N.drop n lent)) → made ≤ length written → length room + length h.waiting ≡ 4095
+      → length room - made ≡ 4095 - length j.waiting
+  room_left made x fits block =
+      let puts = kept_text made x in
+      let text = take made written in
+      omega (arith, N.ap length puts.2.1, N.length-append h.waiting text, N.length-append puts.0 j.waiting, N.length-take-le made written fits)
+
 -- ---- rows
 
 -- the cells of a run were passed over, and its text was put

@@ -9,7 +9,7 @@ returns-in_err-n-in-Short-clause-cell g c = λ kind conversion any. rw c.in-Shor
 
 pub returns-in-None-clause-cell : goal.returns-in-None-clause-cell
 returns-in-None-clause-cell g c = λ kind conversion any.
-    rw c.in-Short.is (record { value = _; steps = steps_of (N.Numbers.short_none _ (sym any.unit_is) c.in_ok-n-in-Short.ensures.length c.in-None.is) })
+    rw c.in-Short.is (record { value = N.Null; steps = steps_of (search (N.rules, N.Numbers.short_none)) })
 
 pub returns-in-Some-clause-cell : goal.returns-in-Some-clause-cell
 returns-in-Some-clause-cell g c = λ kind conversion any.
@@ -24,10 +24,7 @@ returns-in_err-total-in-Chunked-clause-cell g c = λ kind conversion any. rw c.i
 
 pub returns-in-None-2-clause-cell : goal.returns-in-None-2-clause-cell
 returns-in-None-2-clause-cell g c = λ kind conversion any.
-    rw c.in-Chunked.is (record {
-      value = _;
-      steps = steps_of (N.Numbers.total_none _ (sym any.unit_is) c.in_ok-total-in-Chunked.ensures.length c.in-None-2.is);
-    })
+    rw c.in-Chunked.is (record { value = N.Null; steps = steps_of (search (N.rules, N.Numbers.total_none)) })
 
 pub returns-in-Some-2-clause-cell : goal.returns-in-Some-2-clause-cell
 returns-in-Some-2-clause-cell g c = λ kind conversion any.

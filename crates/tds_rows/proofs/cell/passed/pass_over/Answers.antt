@@ -13,14 +13,10 @@ pub returns-in-Wide-clause-cell : goal.returns-in-Wide-clause-cell
 returns-in-Wide-clause-cell g c = λ _. rw c.in-Wide.is (c.pass_long.ensures.cell (N.Wide c.in-Wide.reach) N.Utf16Text (grind N.arith))
 
 pub returns-in-Binary-clause-succeeds : goal.returns-in-Binary-clause-succeeds
-returns-in-Binary-clause-succeeds g c = λ going value bytes more.
-    value_passes g.R.Read.remaining _ c.args.payload.now c.pass_long-in-Binary.new.payload _ value bytes more
-    (returns-in-Binary-clause-cell g c going)
+returns-in-Binary-clause-succeeds g c = search (N.rules, value_passes, returns-in-Binary-clause-cell g c)
 
 pub returns-in-Wide-clause-succeeds : goal.returns-in-Wide-clause-succeeds
-returns-in-Wide-clause-succeeds g c = λ going value bytes more.
-    value_passes g.R.Read.remaining _ c.args.payload.now c.pass_long.new.payload _ value bytes more
-    (returns-in-Wide-clause-cell g c going)
+returns-in-Wide-clause-succeeds g c = search (N.rules, value_passes, returns-in-Wide-clause-cell g c)
 
 pub returns-in_default-kind-clause-succeeds : goal.returns-in_default-kind-clause-succeeds
 returns-in_default-kind-clause-succeeds g c = search (N.rules, value_passes)

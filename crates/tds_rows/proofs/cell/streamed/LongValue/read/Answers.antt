@@ -20,7 +20,8 @@ returns-in_err-put_opening-in-Some-clause-field g c = λ conversion suits. rw c.
     let x = N.Numbers.total_start conversion (search N.rules) c.in_ok-total-in-Chunked.ensures.length c.in-Some.is in
     let breaks = rw (c.QUOTED.ensures ∙ suits.quoted_is) at (c.in_err-put_opening-in-Some.ensures.gives sink.writing) in
     N.passed _ _ _ _ c.from_residual-in_err-put_opening-in-Some.ensures.1
-    (next_breaks _ x _ N.[] (sink.ready.1 sink.writing) sink.ready.2 c.in_err-put_opening-in-Some.ensures.failed (search (N.rules, N.append-nil, total_text)) breaks))
+    (next_breaks _ x _ N.[] (sink.ready.1 sink.writing) sink.ready.2 c.in_err-put_opening-in-Some.ensures.failed
+    (search (N.rules, N.append-nil, total_text)) breaks))
 
 pub returns-in_ok-put_opening-in-Some-clause-field : goal.returns-in_ok-put_opening-in-Some-clause-field
 returns-in_ok-put_opening-in-Some-clause-field g c = λ conversion suits. rw c.in-Chunked.is (

@@ -1,6 +1,6 @@
 use Rattle.tds_rows.proofs as N
 use N.cell.streamed.LongValue.short.Goals as goal
-use N.{◌∙◌, ◌<◌, ◌++◌, []}
+use N.{◌∙◌, ◌++◌, []}
 use N.Numbers.{short_start}
 use N.LongValues.{empty_puts, empty_stops, field_puts, next_breaks, next_path, null_puts, short_open, short_text, short_whole, short_holds}
 use Rattle.tds_cells.proofs.SeveralChunks.{none_begins, rest_none}
@@ -38,22 +38,19 @@ pub returns-in_err-push_data-clause-field : goal.returns-in_err-push_data-clause
 returns-in_err-push_data-clause-field g c = λ conversion suits.
     let x = short_start _ (search N.rules) c.in_ok-n.ensures.length c.in-Some.is in
     let opened = rw (c.QUOTED.ensures ∙ suits.quoted_is) at c.in_ok-put_opening.ensures.gives in
-    let some : 0 < c.in-Some.n = search N.arith in
     let stops = c.in_err-push_data.ensures.data conversion [] suits (search (N.rules, rest_none)) (none_begins _) in
     N.passed _ _ _ _ c.from_residual-in_err-push_data.ensures.1
-    (N.Paths.path_stops (next_path _ x _ (short_open _ _ conversion some) opened)
+    (N.Paths.path_stops (next_path _ x _ (short_open _ _ conversion {n = c.in-Some.n} (search N.arith)) opened)
     (N.LongValues.filling_stops _ (short_holds _ conversion) stops))
 
 pub returns-clause-field : goal.returns-clause-field
 returns-clause-field g c = λ conversion suits.
     let x = short_start _ (search N.rules) c.in_ok-n.ensures.length c.in-Some.is in
     let opened = rw (c.QUOTED.ensures ∙ suits.quoted_is) at c.in_ok-put_opening.ensures.gives in
-    let some : 0 < c.in-Some.n = search N.arith in
-    let start = next_path _ x _ (short_open _ _ conversion some) opened in
+    let start = next_path _ x _ (short_open _ _ conversion {n = c.in-Some.n} (search N.arith)) opened in
     let y = c.in_ok-push_data.ensures.data conversion [] suits (search (N.rules, rest_none)) (none_begins _) in
-    let all = y.front ++ y.takes.piece in
     let same = c.in_ok-push_data.ensures.leaves.same in
     let ended = rw (same.3, same.4, c.place-last_byte.ensures, suits.quoted_is) at
-    (c.put_end-2.ensures.end conversion all suits y.takes.kept_is y.takes.begun) in
+    (c.put_end-2.ensures.end conversion (y.front ++ y.takes.piece) suits y.takes.kept_is y.takes.begun) in
     rw c.put_end-2.ensures.payload (N.MatchResult-weaker _ ended (λ _ z. field_puts start (short_whole _ _ _ y z.0 z.1))
     (λ stop z. N.Paths.path_stops start (N.LongValues.short_end_stops _ _ _ y z)))
