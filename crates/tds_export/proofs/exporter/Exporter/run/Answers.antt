@@ -1,41 +1,23 @@
 use Rattle.tds_export.proofs as N
 use N.exporter.Exporter.run.Goals as goal
-use N.{refl, rules}
+use N.{rules}
 use N.RunSteps.{completes, runs_none, runs_on, runs_ended, stops_end, stops_on}
 
 pub tokens-init : goal.tokens-init
-tokens-init g c = record {
-  running = c.requires;
-  same = (refl, refl, refl, refl, refl, refl, refl);
-  same_payload = (refl, refl, refl, refl);
-  same_sink = (refl, refl, refl);
-  room = refl;
-  token = refl;
-  notice = refl;
-  small = refl;
-  forward = omega N.arith;
-  runs = λ tracks empty noted. runs_none c.requires.sink.ready.2 tracks empty noted;
-}
+tokens-init g c = grind (N.arith, N.common_steps, runs_none)
 
 pub tokens-preserved : goal.tokens-preserved
 tokens-preserved g c = record {
-  running = c.in_ok-token.ensures.leaves.running;
-  same = search rules;
-  same_payload = search rules;
-  same_sink = search rules;
-  room = cc;
-  token = cc;
-  notice = cc;
-  small = cc;
-  forward = omega (N.arith, c.tokens.invariant.forward, c.in_ok-token.ensures.leaves.forward);
+  leaves = search rules;
   runs = λ tracks empty noted. let x = c.tokens.invariant.runs tracks empty noted in
-      runs_on x c.tokens.invariant.same.6 c.tokens.invariant.room (rw c.if-branch.true at (c.in_ok-token.ensures.gives x.tokens x.tracks x.holds x.noted));
+      runs_on x c.tokens.invariant.leaves.same.6 c.tokens.invariant.leaves.areas.description
+      (rw c.if-branch.true at (c.in_ok-token.ensures.gives x.tokens x.tracks x.holds x.noted));
 }
 
 pub returns-in_err-token-clause-gives : goal.returns-in_err-token-clause-gives
 returns-in_err-token-clause-gives g c = λ tracks empty noted. let x = c.tokens.invariant.runs tracks empty noted in
     N.passed _ _ _ _ c.from_residual.ensures.1 (N.inl
-    (stops_on x c.tokens.invariant.same.6 c.tokens.invariant.room (c.in_err-token.ensures.gives x.tokens x.tracks x.holds x.noted)))
+    (stops_on x c.tokens.invariant.leaves.same.6 c.tokens.invariant.leaves.areas.description (c.in_err-token.ensures.gives x.tokens x.tracks x.holds x.noted)))
 
 pub returns-then-not-self-clause-gives : goal.returns-then-not-self-clause-gives
 returns-then-not-self-clause-gives g c = λ tracks empty noted. let first = c.tokens.invariant.runs tracks empty noted in
@@ -64,15 +46,3 @@ returns-clause-gives g c = λ tracks empty noted. let first = c.tokens.invariant
           (N.ap (λ n. record c.token.new.self.progress.report { written = n }) c.delivered.ensures),
       x.noted,
     )
-
-pub returns-clause-leaves : goal.returns-clause-leaves
-returns-clause-leaves g c =
-    let running = c.in_ok-token.ensures.leaves.running in
-    record {
-      same = search rules;
-      payload = search (rules, running);
-      sink = search rules;
-      areas = search (rules, running);
-      forward = omega (N.arith, c.tokens.invariant.forward, c.in_ok-token.ensures.leaves.forward);
-      running = search (rules, running);
-    }
