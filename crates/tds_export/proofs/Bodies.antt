@@ -98,10 +98,10 @@ pub value_passed : {U : Type 0} (r : N.Result U Stop) (name : List ℕ) (kind : 
 value_passed (Ok u) name kind c _ x y =
     record {
       value = record { name = name; kind = kind; value = y.value };
-      steps = return_reads_after x (record { reads = read_inside (value_agrees _ _) y.steps.reads; place_is = y.steps.place_is });
+      steps = return_reads_after x (record { reads = read_inside value_agrees y.steps.reads; place_is = y.steps.place_is });
     }
 value_passed (Err stop) name kind c _ x y =
-    return_stops_after x (record { at = N.with_value name kind y.at; stops = stop_inside (value_agrees _ _) y.stops })
+    return_stops_after x (record { at = N.with_value name kind y.at; stops = stop_inside value_agrees y.stops })
 
 -- ---- tokens with a Length and a body, as they are read
 
@@ -216,13 +216,13 @@ module _ (charset : N.Charset) {tokens : List Token} {s : N.Progress} {u : N.Vie
 
   -- a return value stopped the call
   pub return_stops : {stop : Stop} → N.StopsReturn N.ReturnOrdinal u.seen b u.place stop → StopsQuiet charset (N.in_return tokens) u b stop
-  return_stops x = stops_quietly (grind arith) (grind arith) begun.delivered begun.going (stop_inside (return_agrees _ _ _) x.stops)
+  return_stops x = stops_quietly (grind arith) (grind arith) begun.delivered begun.going (stop_inside (return_agrees _ _) x.stops)
 
   -- a return value was read
   pub return_reads : {place : ℕ} → N.ReadsValue u.seen b u.place place
       → ReadsQuiet charset (N.in_return tokens) tokens u b place (record s { report = record s.report { return_values = s.report.return_values + 1 } })
   return_reads x =
-      quietly begun refl (bare_reads begun _ (read_inside (return_agrees _ _ _) x.steps.reads) x.steps.place_is refl refl (grind (arith, N.TokenLaws.tracked)))
+      quietly begun refl (bare_reads begun _ (read_inside (return_agrees _ _) x.steps.reads) x.steps.place_is refl refl (grind (arith, N.TokenLaws.tracked)))
 
   module _ {n middle : ℕ} {which : Bodied} {element : List ℕ} {c : PayloadView} (quiet : N.is_notice which ≡ N.false)
       (l : LengthRead element n u.seen b u.place middle) where

@@ -281,7 +281,7 @@ module _ (room : ℕ) where
   described_ends ten N.BeforeCount o h = then_ends {e = 1 ∷ 0 ∷ []} (grind (arith, spelt_one)) (ints_end (1 ∷ 0 ∷ []) 1 [] 0 refl (omega arith))
   described_ends ten (InColumn bytes count cols ColumnHead) o (fewer, valid, fits) = grind (arith, ints_end)
   described_ends ten (InColumn bytes count cols (N.ColumnInfo byte)) o (fewer, valid, fits) = rw N.append_assoc (info_ends _ _ _ _ _ refl fewer fits)
-  described_ends ten (InColumn bytes count cols (N.NameCount kind)) o (fewer, valid, (v, fits)) = count_ends _ _ _ _ _ refl fewer fits
+  described_ends ten (InColumn bytes count cols (N.NameCount kind)) o (fewer, valid, (v, fits)) = grind (arith, count_ends)
   described_ends ten (InColumn bytes count cols (N.NameUnits kind m)) o (fewer, valid, (v, some, fits)) =
       let l : length (zeros m) ≡ m = N.length-replicate m 0 in
       then_ends {e = zeros m} (spelt_one (omega arith) l refl refl) (grind (arith, column_ends, N.length-append))
@@ -309,7 +309,7 @@ ReturnEnds = Ends return_value N.WholeReturn
 value_ends : (name : List ℕ) (kind : Kind) (part : CellPart) → CellReached part → ReturnEnds (N.with_value name kind part) (N.rest_of_cell part)
 value_ends name kind _ h =
     let x = cell_ends _ _ h in
-    (record { name = name; kind = kind; value = x.0 }, spelt_inside (value_agrees _ _) x.1)
+    (record { name = name; kind = kind; value = x.0 }, spelt_inside value_agrees x.1)
 
 kind_ends : (name : List ℕ) {kind : Kind} {o : Option Kind} → o ≡ Some kind → is_valid kind ≡ true → ReturnEnds (N.with_return_kind name o) (N.rest_of_value o)
 kind_ends _ is v = rw is (value_ends _ _ _ (grind arith))
@@ -403,15 +403,15 @@ module _ (room : ℕ) where
   token_ends ten tokens N.Between o = (tokens, N.Spelt-none _ _)
   token_ends ten tokens (N.Describing d) (begun, r) =
       let all = described_ends _ ten d begun r in
-      let read = spelt_inside (N.ResponseLaws.description_agrees Windows1252 room tokens) all.1 in
+      let read = spelt_inside (N.ResponseLaws.description_agrees Windows1252 room {tokens = tokens}) all.1 in
       grind arith
   token_ends ten tokens (InRow part) (begun, r) =
       let all = row_ends _ r in
-      let read = spelt_inside (row_agrees Windows1252 room tokens) all.1 in
+      let read = spelt_inside (row_agrees Windows1252 room {tokens = tokens}) all.1 in
       grind arith
   token_ends ten tokens (N.InReturn part) (begun, r) =
       let all = return_ends _ r in
-      let read = spelt_inside (return_agrees Windows1252 room tokens) all.1 in
+      let read = spelt_inside (return_agrees Windows1252 room {tokens = tokens}) all.1 in
       grind arith
   token_ends ten tokens (N.TokenLength (N.APassed passed)) o =
       (tokens ++ N.PassedOver passed [] ∷ [], body_is_read Windows1252 _ (zeros 2) _ refl refl refl refl)

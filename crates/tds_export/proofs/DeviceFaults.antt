@@ -22,21 +22,21 @@ abbrev ReadingFault : ℕ → ℕ → Fault → Type 0
 ReadingFault before after fault = ((fault ≡ N.WriteFailed) → ⊥) × ((fault ≡ ReadFailed) → after ≡ N.one_more before)
 
 -- a fault of which no device's is one
-of_none : (before after : ℕ) (fault : Fault) → N.IsOfWire fault → ReadingFault before after fault
+of_none : (before : ℕ) {after : ℕ} {fault : Fault} → N.IsOfWire fault → ReadingFault before after fault
 of_none = grind arith
 
 ends_blame : (size limit : ℕ) {failures : ℕ} (left : Option (List ℕ)) (b : N.PayloadView) {bytes : List ℕ} {own : Stop}
     → N.Ends (N.begun size limit left failures) b bytes own → ReadingFault failures b.failures own.fault
-ends_blame _ _ _ b (inl x) = of_none _ _ _ (rw (← ap (λ (c : Coming). c.stop.fault) (x.2 [])) (N.message_of_wire _ _ _ 0 0 _))
-ends_blame _ _ _ b (inr (inl x)) = of_none _ _ _ (grind (arith, N.message_of_wire))
+ends_blame _ _ _ b (inl x) = of_none _ (rw (← ap (λ (c : Coming). c.stop.fault) (x.2 [])) (N.message_of_wire _ _ _ 0 0 _))
+ends_blame _ _ _ b (inr (inl x)) = of_none _ (grind (arith, N.message_of_wire))
 ends_blame _ _ _ b (inr (inr x)) = (λ e. (cc), λ e. x.4.0)
 
-reading_fault : (charset : N.Charset) (room size limit : ℕ) {failures : ℕ} {left : Option (List ℕ)} {b : N.PayloadView} {place : ℕ} (at : N.Part) (stop : Stop)
+reading_fault : (charset : N.Charset) (room size limit : ℕ) {failures : ℕ} {left : Option (List ℕ)} {b : N.PayloadView} {place : ℕ} {at : N.Part} {stop : Stop}
     → N.StopsReading (N.response charset room) N.response_start (N.begun size limit left failures) b place at stop → ReadingFault failures b.failures stop.fault
-reading_fault _ _ _ _ {b} at _ x = elim x.cause [
-  | inl y ↦ of_none _ _ _ (grind (arith, part_payload))
+reading_fault _ _ _ _ {b} {at} x = elim x.cause [
+  | inl y ↦ of_none _ (grind (arith, part_payload))
   | inr y ↦ elim y.stop_is [
-    | inl z ↦ of_none _ _ _ (grind arith)
+    | inl z ↦ of_none _ (grind arith)
     | inr z ↦ rw (ap (λ (s : Stop). s.fault) z.1) (ends_blame _ _ _ b y.ends)
   ]
 ]
@@ -59,7 +59,7 @@ blamed {given} {stopped} x = go x.stops
     go : N.RunStops (N.grammar_of given) N.response_start (N.begun_at given) x.seen 0 (N.fresh_at given) x.middle given.after.areas.description x.failed x.stop
         → Blamed given stopped
     go (inl (inl y)) =
-        let r = reading_fault _ _ _ _ _ _ y.0.stops in
+        let r = reading_fault _ _ _ _ y.0.stops in
         grind arith
     go (inl (inr y)) = grind (arith, is, ends)
     go (inr y) = grind (arith, is, ends)

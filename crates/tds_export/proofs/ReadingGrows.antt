@@ -45,7 +45,7 @@ with_described_grows _ d = grows_same _
 
 -- a return value in its response
 with_return_grows : (tokens : List Token) (part : N.ReturnPart) → Grows (text tokens ++ []) (text_so_far (N.with_return tokens part))
-with_return_grows tokens (N.WholeReturn r) = token_grows tokens (N.Returned r)
+with_return_grows tokens (N.WholeReturn r) = token_grows tokens _
 with_return_grows _ _ = grows_same _
 
 -- ---- the span
@@ -73,6 +73,6 @@ module _ (charset : N.Charset) (room : ℕ) where
       N.Spelt-induct _ _ adds p (grows_same _) _ q s
 
   -- and to the span
-  pub span_along : (p q : Part) (bytes : List ℕ) → N.Spelt (N.response charset room) p bytes q → N.span_so_far p ≤ N.span_so_far q
-  span_along p q _ s = N.Spelt-induct _ (λ r b. N.span_so_far p ≤ N.span_so_far r)
+  pub span_along : {p q : Part} {bytes : List ℕ} → N.Spelt (N.response charset room) p bytes q → N.span_so_far p ≤ N.span_so_far q
+  span_along {p} {q} s = N.Spelt-induct _ (λ r b. N.span_so_far p ≤ N.span_so_far r)
       (grind (arith, description_span, N.TokenLaws.greatest_span-append)) p (omega arith) _ q s

@@ -49,7 +49,7 @@ piece _ n k a b e l = (rw (e, ← l) (N.take-append_seam a b), sym (N.drop-drop 
 
 -- the first byte of what stands there
 byte_of : (body : List ℕ) (n x : ℕ) (b : List ℕ) → drop n body ≡ x ∷ b → N.slice_index body n ≡ x
-byte_of body n x b e = ap (N.slice_index body) (omega arith) ∙ sym (N.get_or-drop n _ 0 0) ∙ ap (λ v. N.slice_index v 0) e
+byte_of = grind (arith, N.common_steps)
 
 -- the body of a notice is read as it
 notice_is_read : {n : Notice} {body : List ℕ} → N.SpellsNotice n body → (14 ≤ length body) × (N.holds_notice body ≡ true) × (N.notice_of body ≡ n)
@@ -97,13 +97,12 @@ module _ {S T : Type 0} {small : Grammar S Fault} {big : Grammar T Fault} {lift 
     stop_inside = grind (arith, N.stops_inside, inside)
 
 -- a value is read in its token as by itself
-pub value_agrees : (name : List ℕ) (kind : Kind) (p : N.CellPart) → 0 < (N.cell N.return_column).size p
+pub value_agrees : {name : List ℕ} {kind : Kind} (p : N.CellPart) → 0 < (N.cell N.return_column).size p
     → Agrees (N.cell N.return_column) return_value (N.with_value name kind) p
 value_agrees = grind arith
 
 pub return_name_is_read : (units : ℕ) (name : List ℕ) → length name ≡ 2 * units → Spelt return_value (N.with_return_units units) name (N.ReturnHead name)
-return_name_is_read _ [] l = grind arith
-return_name_is_read _ (x ∷ xs) l = grind (arith, Spelt-step)
+return_name_is_read = grind (arith, N.common_steps, Spelt-step)
 
 front_is_read : {name front : List ℕ} → N.SpellsReturnName name front → Spelt return_value N.ReturnOrdinal front (N.ReturnHead name)
 front_is_read h =
@@ -112,12 +111,11 @@ front_is_read h =
 
 head_is_read : {name : List ℕ} (ignored : List ℕ) (byte : ℕ) {n : ℕ} → length ignored ≡ 7 → N.rest_length byte ≡ Some n
     → Spelt return_value (N.ReturnHead name) (ignored ++ byte ∷ []) (N.with_return_type name byte n)
-head_is_read = grind (arith, Spelt-step, N.get_or-append_seam, N.length-append)
+head_is_read = grind (arith, N.common_steps, Spelt-step)
 
 pub info_is_read : (name : List ℕ) (byte : ℕ) (rest : List ℕ) {kind : Kind} → N.rest_length byte ≡ Some (length rest)
     → N.kind_of (byte ∷ rest) ≡ Some kind → Spelt return_value (N.with_return_type name byte (length rest)) rest (N.with_return_kind name (Some kind))
-info_is_read _ _ [] n k = grind arith
-info_is_read _ _ (x ∷ xs) n k = grind (arith, Spelt-step)
+info_is_read = grind (arith, N.common_steps, Spelt-step)
 
 -- What spells a return value is read as it.
 return_is_read : {r : N.ReturnValue} {bytes : List ℕ} → N.SpellsReturnValue r bytes → Spelt return_value N.ReturnOrdinal bytes (N.WholeReturn r)
@@ -125,7 +123,7 @@ return_is_read {r} h =
     let info = N.byte_and_rest _ _ h.type in
     rw h.spelt (spelt_both (front_is_read h.named) (spelt_both (rw (append_assoc h.ignored (info.byte ∷ []) info.rest
     ∙ ap (λ v. h.ignored ++ v) (sym info.spelt)) at (spelt_both (head_is_read _ _ h.seven info.whole)
-    (info_is_read r.name info.byte info.rest info.whole info.allowed))) (spelt_inside (value_agrees r.name r.kind)
+    (info_is_read r.name info.byte info.rest info.whole info.allowed))) (spelt_inside value_agrees
     (N.cell_is_read N.return_column r.kind _ r.value h.value (grind arith) h.cell))))
 
 -- the bytes up to the value's, and what is read of it
@@ -210,16 +208,16 @@ part_at tokens at = record { tokens = tokens; at = at }
 
 module _ (charset : N.Charset) (room : ℕ) where
   -- a description is read in its response as by itself
-  pub description_agrees : (tokens : List Token) (d : N.DescriptionPart) → 0 < (N.description room).size d
+  pub description_agrees : {tokens : List Token} (d : N.DescriptionPart) → 0 < (N.description room).size d
       → Agrees (N.description room) (response charset room) (N.with_described tokens) d
   description_agrees = grind arith
 
   -- so is a row
-  pub row_agrees : (tokens : List Token) (p : N.RowPart) → 0 < (N.row charset).size p → Agrees (N.row charset) (response charset room) (N.with_row tokens) p
+  pub row_agrees : {tokens : List Token} (p : N.RowPart) → 0 < (N.row charset).size p → Agrees (N.row charset) (response charset room) (N.with_row tokens) p
   row_agrees = grind arith
 
   -- and a return value
-  pub return_agrees : (tokens : List Token) (p : N.ReturnPart) → 0 < return_value.size p → Agrees return_value (response charset room) (N.with_return tokens) p
+  pub return_agrees : {tokens : List Token} (p : N.ReturnPart) → 0 < return_value.size p → Agrees return_value (response charset room) (N.with_return tokens) p
   return_agrees = grind arith
 
   -- bytes are read as a part of a response after another
@@ -270,15 +268,15 @@ module _ (charset : N.Charset) (room : ℕ) where
       → Leads (after_tokens tokens) bytes (with_token tokens (N.Row cells))
   row_token_is_read None _ is some h = absurd h
   row_token_is_read (Some columns) _ is some (rest, N.inl h) =
-      lead_then N.ARow h.0 (cc) (rw is (spelt_inside (row_agrees _) (N.row_is_read _ _ _ _ h.1)))
+      lead_then N.ARow h.0 (cc) (rw is (spelt_inside row_agrees (N.row_is_read _ _ _ _ h.1)))
   row_token_is_read (Some columns) cells is some (rest, N.inr h) =
-      lead_then N.AnNbcRow h.0 (cc) (rw is (spelt_inside (row_agrees _) (N.nbc_row_is_read _ columns cells rest (omega arith) h.1)))
+      lead_then N.AnNbcRow h.0 (cc) (rw is (spelt_inside row_agrees (N.nbc_row_is_read _ columns cells rest (omega arith) h.1)))
 
   -- what spells a token is read as it
   token_is_read : {tokens : List Token} (t : Token) {bytes : List ℕ} → HasColumns (described_after None tokens)
       → N.SpellsToken charset room (described_after None tokens) t bytes → Leads (after_tokens tokens) bytes (with_token tokens t)
   token_is_read (N.Metadata encoded columns) some h = lead_then N.AMetadata h.0 (grind arith)
-      (spelt_inside (description_agrees _) (N.description_is_read _ _ _ h.1))
+      (spelt_inside description_agrees (N.description_is_read _ _ _ h.1))
   token_is_read N.NoMetadata some h = lead_then N.AMetadata h (grind arith) (grind (arith, Spelt-step))
   token_is_read (N.Row cells) some h = row_token_is_read _ _ refl some h
   token_is_read (N.PassedOver passed body) some (rest, begins, s) = lead_then (N.WithBody (N.APassed passed)) begins (grind arith)
@@ -286,7 +284,7 @@ module _ (charset : N.Charset) (room : ℕ) where
   token_is_read (N.Error n) some (rest, body, begins, s, h) = notice_token_is_read N.AnError begins s h (ap N.Error (notice_is_read h).2)
   token_is_read (N.Info n) some (rest, body, begins, s, h) = notice_token_is_read N.AnInfo begins s h (ap N.Info (notice_is_read h).2)
   token_is_read (N.Returned r) some (rest, begins, h) = lead_then N.AReturn begins (grind arith)
-      (spelt_inside (return_agrees _) (return_is_read h))
+      (spelt_inside return_agrees (return_is_read h))
   token_is_read (N.Done m) some h = fixed_is_read N.ADone h.1 h.2 (grind arith)
   token_is_read (N.DoneInProc m) some h = fixed_is_read N.ADoneInProc h.1 h.2 (grind arith)
   token_is_read (N.ReturnStatus n) some h = fixed_is_read N.AStatus h.1 h.2 (cc)

@@ -14,7 +14,7 @@ counted_at : (body : List ℕ) {n m : ℕ} {r : List ℕ} → n < length body �
 counted_at = grind (arith, N.drop-cons, piece)
 
 long : (body : List ℕ) (n k : ℕ) → n + k ≤ length body → length (take k (drop n body)) ≡ k
-long = grind (arith, N.length-drop, N.length-take-le)
+long = grind (arith, N.common_steps)
 
 notice_spelt : (body : List ℕ) → N.holds_notice body ≡ true → N.SpellsNotice (N.notice_of body) body
 notice_spelt body h =

@@ -57,10 +57,7 @@ AllFit (Some v) = N.FitsWidths v
 
 -- the bytes of a kind spell numbers that fit
 values_fit : (kind : N.Kind) (e : List ℕ) → N.AreBytes e → N.is_length_allowed kind (length e) ≡ true → AllFit (N.value_of kind e)
-values_fit kinds.Int1 e h k = integer_fits 1 e h
-values_fit (kinds.IntN n) e h k = integer_fits n e h
-values_fit (kinds.Decimal n precision scale) e h k = grind (arith, little_below, N.and_parts)
-values_fit _ e h k = grind arith
+values_fit = grind (arith, N.common_steps, integer_fits, little_below)
 
 -- the text of a value that is read
 abbrev ReadShort : N.Result N.ScalarValue N.ValueFault → Type 0
@@ -127,7 +124,7 @@ module _ (charset : N.Charset) where
   -- the cells to come begin
   next_length : (cells : List N.Cell) (ks : List (Column × Bool))
       → row_most (N.next_cell charset cells ks) ≤ length (joined (N.map N.field cells)) + 5 * how_many_null ks + 2
-  next_length _ [] = grind (arith, length-append, joined)
+  next_length _ [] = grind (arith, joined)
   next_length cells ((k, true) ∷ ks) = grind (arith, N.map-append, one_more_length, (next_length (cells ++ N.Null ∷ []) ks))
   next_length _ ((k, false) ∷ ks) = grind arith
 
@@ -205,6 +202,6 @@ module _ (charset : N.Charset) (room : ℕ) where
       (omega arith) _ q are h
 
   -- the text so far is at most 64 times as long as all that is read
-  pub bounded_along : (q : Part) (bytes : List ℕ) → N.AreBytes bytes → N.Spelt (response charset room) N.response_start bytes q
+  pub bounded_along : {q : Part} {bytes : List ℕ} → N.AreBytes bytes → N.Spelt (response charset room) N.response_start bytes q
       → length (N.text_so_far q) ≤ 64 * length bytes
-  bounded_along q _ are h = grind (arith, grown_along are h, row_length, length-append)
+  bounded_along are h = grind (arith, grown_along are h, row_length, length-append)

@@ -95,7 +95,7 @@ module _ {tokens : List Token} {s : Progress} {u : View} (begun : OpenTexts toke
     bare_reads none is tracks = token_reads (same_text from (N.with_token tokens t) u.held (grind (arith, bare, texts)) begun.delivered) tracks
         (holds-snoc t ((bare is).encoded _) begun.holds)
 
-module _ (charset : Charset) {tokens : List Token} {s : Progress} {u : View} (begun : OpenTexts tokens s u) (b : PayloadView) {place : ℕ} where
+module _ (charset : Charset) {tokens : List Token} {s : Progress} {u : View} (begun : OpenTexts tokens s u) {b : PayloadView} {place : ℕ} where
   -- a token with fields of a fixed length was read
   pub fixed_reads : {progress : Progress} {which : N.Fixed} (fields : List ℕ) → place ≡ u.place + N.fields_length which
       → length fields ≡ N.fields_length which → N.Takes u.seen b fields (N.fields_length which) → N.Tracks progress (tokens ++ N.fixed which fields ∷ [])
@@ -118,12 +118,12 @@ row_holds _ h = grind arith
 
 module _ (charset : Charset) (room : ℕ) {place : ℕ} {start : N.RowPart} {area : Space} {before after : SinkView} {a b : PayloadView} {failed : Bool} {stop
     : Stop}
-    (tokens : List Token) where
+    {tokens : List Token} where
   -- a row stopped the call
   row_stops : IsHolding area (after_tokens tokens) → N.StopsStreaming (N.row charset) N.row_so_far start a b place before after failed stop
       → N.StepStops (response charset room) (with_row tokens start) a b place before after area failed stop
   row_stops holds x =
-      let agrees = row_agrees _ _ _ in
+      let agrees = row_agrees charset room in
       let text_is : (p : N.RowPart) → text tokens ++ N.row_so_far p ≡ text_so_far (with_row tokens p) = grind (arith, texts) in
       elim x.cause [
         | inl y ↦ inl (
@@ -147,23 +147,23 @@ module _ (charset : Charset) (room : ℕ) {place : ℕ} {start : N.RowPart} {are
 
 -- ---- COLMETADATA
 
-some_bytes : (room : ℕ) (area bytes : List ℕ) (columns : List N.Column) → N.Spelt (N.description room) N.BeforeCount bytes (N.WholeDescription area columns)
+some_bytes : (room : ℕ) {area : List ℕ} (bytes : List ℕ) {columns : List N.Column} → N.Spelt (N.description room) N.BeforeCount bytes (N.WholeDescription area columns)
     → 0 < length bytes
-some_bytes _ _ [] _ h = absurd (let same = N.one_state _ _ _ _ _ h (N.Spelt-none _ _) in cc)
-some_bytes _ _ (x ∷ bytes) _ h = omega arith
+some_bytes _ [] h = absurd (let same = N.one_state _ _ _ _ _ h (N.Spelt-none _ _) in cc)
+some_bytes _ (x ∷ bytes) h = omega arith
 
 module _ (charset : Charset) {tokens : List Token} {s : Progress} {u : View} {area : Space} {b : PayloadView} (begun : OpenTexts tokens s u) where
   -- a Count of no metadata was read
   pub none_reads : {place : ℕ} → N.Describes u.area.room N.BeforeCount u.seen b u.place place u.area.peak area N.NoDescription
       → N.ReadsNext charset (in_metadata tokens) tokens u (record u { seen = b; place = place; area = area }) (record s { described = false })
-  none_reads x = quietly begun refl (token_reads begun N.NoMetadata (read_inside (description_agrees _ _ _) x.reads) x.place_is
+  none_reads x = quietly begun refl (token_reads begun N.NoMetadata (read_inside (description_agrees _ _) x.reads) x.place_is
       (same_text (in_metadata tokens) (N.with_token tokens N.NoMetadata) _ (simp texts) begun.delivered)
       (grind (arith, tracked)) (grind (arith, encoded_after-append, greatest_span-append)))
 
   -- the description is cut or refused
   pub metadata_stops : {stop : Stop} → N.StopsDescribing u.area.room N.BeforeCount u.seen b u.place u.area.peak area stop
       → N.StopsIn charset (in_metadata tokens) u (record u { seen = b; area = area }) stop
-  metadata_stops x = stops_quietly (grind arith) (grind arith) begun.delivered begun.going (stop_inside (description_agrees _ _ _) x.stops)
+  metadata_stops x = stops_quietly (grind arith) (grind arith) begun.delivered begun.going (stop_inside (description_agrees _ _) x.stops)
 
   module _ {columns : List N.Column} {place : ℕ} {after : SinkView} (shown : columns_of area.bytes ≡ columns)
       (x : N.Describes u.area.room N.BeforeCount u.seen b u.place place u.area.peak area (N.WholeDescription area.bytes columns)) where
@@ -171,7 +171,7 @@ module _ (charset : Charset) {tokens : List Token} {s : Progress} {u : View} {ar
     pub metadata_reads : N.Puts u.held after (between (N.nat_lt 0 s.report.sets) ++ N.header_line (columns_of area.bytes))
         → N.ReadsNext charset (in_metadata tokens) tokens u (record u { seen = b; place = place; held = after; area = area })
         (record s { report = record s.report { sets = s.report.sets + 1 }; described = true })
-    metadata_reads puts = quietly begun refl (token_reads begun (N.Metadata area.bytes columns) (read_inside (description_agrees _ _ _) x.reads) x.place_is
+    metadata_reads puts = quietly begun refl (token_reads begun (N.Metadata area.bytes columns) (read_inside (description_agrees _ _) x.reads) x.place_is
         (grind (arith, between, begun_after, begun_where_sets, texts)) (grind (arith, tracked, shown))
         (grind (arith, encoded_after-append, greatest_span-append)))
 
@@ -181,7 +181,7 @@ module _ (charset : Charset) {tokens : List Token} {s : Progress} {u : View} {ar
         → N.StopsInWriting (response charset u.area.room) (in_metadata tokens) u.seen b u.held after area stop
     metadata_breaks few between_b breaks =
         let header = between _ ++ N.header_line columns in
-        let l = N.last_inside _ _ _ (inside (description_agrees _ _ _)) _ _ _ x.reads.spelt (some_bytes _ _ _ _ x.reads.spelt) in
+        let l = N.last_inside _ _ _ (inside (description_agrees _ _)) _ _ _ x.reads.spelt (some_bytes _ _ x.reads.spelt) in
         record {
           at = N.with_described tokens l.at;
           breaks = record {
@@ -273,10 +273,10 @@ tracks_rows {s} tokens (r ∷ q ∷ qs) some k =
     rw (append_assoc, n) at (tracks_rows {s = with_rows s 1} (tokens ++ Row r ∷ []) (q ∷ qs) (omega arith) (grind arith))
 
 -- the description stays what it was
-rows_hold : (area : Space) (tokens : List Token) (rs : List (List Cell)) → IsHolding area (after_tokens tokens)
+rows_hold : {area : Space} (tokens : List Token) (rs : List (List Cell)) → IsHolding area (after_tokens tokens)
     → IsHolding area (after_tokens (tokens ++ map Row rs))
-rows_hold _ tokens [] h = rw (append-nil tokens) h
-rows_hold area tokens (r ∷ rs) h = rw (append_assoc tokens (Row r ∷ []) (map Row rs)) at (rows_hold area (tokens ++ Row r ∷ []) rs (holds-snoc _ refl h))
+rows_hold tokens [] h = rw (append-nil tokens) h
+rows_hold tokens (r ∷ rs) h = rw (append_assoc tokens (Row r ∷ []) (map Row rs)) at (rows_hold (tokens ++ Row r ∷ []) rs (holds-snoc _ refl h))
 
 -- ---- what the call that reads them gives
 
@@ -289,7 +289,7 @@ columns_known : (tokens : List Token) {described : Bool} {bytes : List ℕ} → 
     → Describe tokens described → N.described_after None tokens ≡ Some (columns_of bytes)
 columns_known = grind arith
 
-module _ (which : N.RowToken) (charset : Charset) {columns : List N.Column} {after : SinkView} {tokens : List Token} {u : View} {b : PayloadView} {s :
+module _ {which : N.RowToken} {charset : Charset} {columns : List N.Column} {after : SinkView} {tokens : List Token} {u : View} {b : PayloadView} {s :
     Progress}
     (described : s.described ≡ true) (shown : columns ≡ columns_of u.area.bytes) (begun : OpenTexts tokens s u) where
   -- rows were read, and their lines put
@@ -307,7 +307,7 @@ module _ (which : N.RowToken) (charset : Charset) {columns : List N.Column} {aft
         streams = record { bytes = x.streams.bytes; spelt = rw (← end) there.spelt; takes = x.streams.takes; puts = grind arith };
         place_is = x.place_is;
         tracks = rw (long ∙ sym x.counted) at (tracks_rows _ (x.earlier ++ x.last ∷ []) (omega (arith, long)) begun.tracks);
-        holds = rows_hold _ _ (x.earlier ++ x.last ∷ []) begun.holds;
+        holds = rows_hold _ (x.earlier ++ x.last ∷ []) begun.holds;
       })
 
   -- their reading stopped
@@ -317,7 +317,7 @@ module _ (which : N.RowToken) (charset : Charset) {columns : List N.Column} {aft
   rows_stop y =
       let x = rw shown at y in
       stops_further (rows_stream _ _ _ _ _ (grind arith) x.streams) refl
-      (row_stops _ _ _ (rows_hold _ _ x.earlier begun.holds) x.stops)
+      (row_stops _ _ (rows_hold _ x.earlier begun.holds) x.stops)
 
 -- ---- tokens by their first bytes
 
@@ -348,7 +348,7 @@ first {tokens} {to} {h} begins d t = record {
 }
 
 module _ {charset : Charset} {room byte : ℕ} {tokens : List Token} {to : Part} {a : PayloadView}
-    (b : PayloadView) {c : PayloadView} {place middle : ℕ} {h k : SinkView}
+    {b c : PayloadView} {place middle : ℕ} {h k : SinkView}
     {area : Space} (begins : BeginsToken charset room tokens byte to) (d : h.delivered ≤ 2 ^ 64 - 1) (t : N.Takes a b (byte ∷ []) 1)
     (at : middle ≡ place + 1) where
   -- a token is read after its first byte

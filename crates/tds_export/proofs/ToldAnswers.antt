@@ -29,9 +29,6 @@ pub record ReaderSide (run : Run) (q : PayloadView) : Type 0 where
 abbrev pub start : Run → PayloadView
 start run = N.begun (limits run).packet_size (limits run).max_wire (Some run.input) run.given.before.reader.failures
 
-zero : (n : ℕ) → 0 + n ≡ n
-zero n = omega arith
-
 -- the bytes after a state
 rest_of : (bytes : List ℕ) {part payload : List ℕ} → payload ≡ bytes ++ part → drop (length bytes) payload ≡ part
 rest_of = grind (arith, N.drop-append_seam)
@@ -100,7 +97,7 @@ module _ (run : Run) {q : PayloadView} {part : Part} {bytes : List ℕ} (side : 
   cut_stops : {stop : Stop} → N.CutsNext (grammar run) (start run) q bytes 0 part stop → N.Stops run stop.fault stop.place
   cut_stops c = elim (N.ends_front _ _ _ _ _ q _ _ side.bytes side.left c.ends) [
     | inl m ↦ elim c.stop_is [
-      | inl e ↦ rw (e.1.2 ∙ ap (λ n. record { fault = e.1.0; place = N.Payload n }) (zero _)) (ended_in_payload _ c.cut m e.1.1)
+      | inl e ↦ rw (e.1.2, N.zero-add) (ended_in_payload _ c.cut m e.1.1)
       | inr e ↦ absurd (e.0 (cc))
     ]
     | inr x ↦ elim c.stop_is [
@@ -114,7 +111,7 @@ reading_stops : {run : Run} {q : PayloadView} {at : Part} {stop : Stop} → Read
     → N.StopsReading (grammar run) response_start (start run) q 0 at stop → N.IsHolding run.given.after.areas.description at
     → text_put run ≡ text_so_far at → N.Stops run stop.fault stop.place
 reading_stops side s holds text = elim s.cause [
-  | inl r ↦ rw (r.1 ∙ ap N.Payload (zero _)) (refused_in_payload _ side s.spelt holds text r.0)
+  | inl r ↦ rw (r.1, N.zero-add) (refused_in_payload _ side s.spelt holds text r.0)
   | inr c ↦ cut_stops _ side s.spelt holds text c
 ]
 
@@ -160,21 +157,20 @@ front_begins size {limit} _ packets {w} begin each within l =
     (further _ _ _ w _ _ _ read.1 (rw (← begin) at l)).1
 
 -- a message is what is read at most of an input that begins with it
-message_longest : {size limit : ℕ} {input wires : List ℕ} (unread : List ℕ) {packets : List Packet} → N.Message size limit packets wires
-    → input ≡ wires ++ unread → (taken : ℕ) × N.Longest (wire size limit) N.no_wire input taken (N.after_last size limit packets)
-unfolding Told
-message_longest {size} {limit} {input} unread {packets} m e =
-    let g = wire size limit in
-    let r = N.read_longest g N.no_wire input (N.Reading (N.after_last size limit packets) unread)
-    (subst (Told g N.no_wire input) (ap (N.feed_all g (N.Reading N.no_wire [])) e ∙ N.read_to_end _ _ _ _ _ m) (N.told g N.no_wire input)) in
-    (length r.0, r.2)
+module _ {size limit : ℕ} {input wires : List ℕ} (unread : List ℕ) {packets : List Packet} (m : N.Message size limit packets wires)
+    (e : input ≡ wires ++ unread) where
+  message_longest : (taken : ℕ) × N.Longest (wire size limit) N.no_wire input taken (N.after_last size limit packets)
+  unfolding Told
+  message_longest =
+      let g = wire size limit in
+      let r = N.read_longest g _ _ (N.Reading _ unread) (rw (N.read_to_end _ _ _ wires _ m) at (N.told g N.no_wire (wires ++ unread))) in
+      rw e (length r.0, r.2)
 
--- the wire of a message has no fault
-no_wire_fault : {size limit : ℕ} {input wires : List ℕ} (unread : List ℕ) {packets read : List Packet} {fault : Fault} → N.Message size limit packets wires
-    → input ≡ wires ++ unread → N.WireFault size limit input read fault → ⊥
-no_wire_fault {size} {limit} unread m e f =
-    let same = (N.one_longest (wire size limit) _ _ _ _ _ _ f.longest (message_longest _ m e).1).1 in
-    grind arith
+  -- the wire of a message has no fault
+  no_wire_fault : {read : List Packet} {fault : Fault} → N.WireFault size limit input read fault → ⊥
+  no_wire_fault f =
+      let same = (N.one_longest (wire size limit) _ _ _ _ _ _ f.longest message_longest.1).1 in
+      grind arith
 
 -- ---- no stop of an accepted response is one of the input
 
@@ -233,7 +229,7 @@ bounded {run} {at} are r peak =
     let split : payload_of l.1.packets ≡ r.bytes ++ (r.more ++ payload_of b.0) = grind (arith, N.flat_map-append, N.append_assoc) in
     let longest = N.some_longest g _ _ in
     let f = further g _ at longest.1 r.bytes (r.more ++ payload_of b.0) longest.0 r.spelt (grind arith) in
-    let least = N.ReadingGrows.span_along _ _ at longest.1 f.0 f.1 in
+    let least = N.ReadingGrows.span_along _ _ f.1 in
     record { packets = l.1.packets; place = longest.0; part = longest.1; front = N.read_front _ _ _ _ _ are l.2; leads = longest.2; description = omega arith }
 
 -- where a run stopped in reading
@@ -280,7 +276,7 @@ fits_at : (run : Run) (packets : List Packet) (rest : List ℕ) (place : ℕ) (p
     → Spelt (grammar run) response_start (take place (payload_of packets)) part → n ≤ length (text_so_far part) → n ≤ 64 * (limits run).max_wire
 fits_at _ packets _ place _ n are begin within spelt few =
     let payload = payload_of packets in
-    let most = bounded_along _ _ _ _ (N.AreBytes-front _ _ (rw (← N.take-append-drop place payload) at
+    let most = bounded_along _ _ (N.AreBytes-front _ _ (rw (← N.take-append-drop place payload) at
     (payload_bytes packets (grind (arith, N.AreBytes-front))))) spelt in
     omega (arith, payload_short packets, ap length (N.take-append-drop place payload), length-append (take place payload) (drop place payload))
 

@@ -28,7 +28,7 @@ unfoldable pub use Rattle.{
 pub use base_laws.Common.{◌≡◌, ◌∙◌, inl, inr, ℕ, ◌+◌, ◌≤◌, List, [], ◌∷◌, ◌++◌, length, take, drop, refl, sym, ap, subst, arith, append_assoc, append-nil}
 pub use base_laws.Common.{take-append-drop, Result, Ok, Err, ◌-◌, ◌^◌, ◌<◌, Bool, false, length-append, zero, suc, ◌%◌, true, replicate, Option, ◌*◌}
 pub use base_laws.Common.{slice_index, map, ◌⊎◌, MatchResult, unsigned_abs, length-take, ◌/◌, length-drop, max, take-add, drop-cons, length-take-le, rules}
-pub use base_laws.Common.{take_all}
+pub use base_laws.Common.{take_all, zero-add}
 pub use base_laws.KnownBytes.{Consumes-nil}
 pub use base_laws.Math.Seq.{get_or-append_seam, take-append_seam, drop-append_seam, take-append-add, get_or-drop}
 pub use base_laws.lemmas.Bool.{ne_eqb, and_parts, agree_below, agree_below_at}

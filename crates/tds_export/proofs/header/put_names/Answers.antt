@@ -15,4 +15,4 @@ pub names-preserved : goal.names-preserved
 names-preserved g c = N.NameTexts.names_more c.in-Some.ensures.steps c.names.invariant c.count-count.ensures.value c.in_ok-put_name.ensures
 
 pub returns : goal.returns
-returns g c = N.NameTexts.names_all c.in-None.ensures.steps.0 c.names.invariant
+returns g c = grind (N.arith, N.common_steps, N.NameTexts.names_all)

@@ -4,8 +4,7 @@ use N.{rules, ◌≡◌}
 use N.Bodies.{body_taken}
 
 pub returns-in_err-fill-clause-gives : goal.returns-in_err-fill-clause-gives
-returns-in_err-fill-clause-gives g c = λ _ _ _ _ notice. N.passed _ _ _ _ c.from_residual.ensures.1
-    (N.Bodies.length_cut _ _ notice (search rules) (c.in_err-fill.ensures.part c.requires.going.going))
+returns-in_err-fill-clause-gives g c = grind (N.arith, N.common_steps, N.passed, N.Bodies.length_cut)
 
 pub returns-then-length-lt-LEAST_NOTICE-clause-gives : goal.returns-then-length-lt-LEAST_NOTICE-clause-gives
 returns-then-length-lt-LEAST_NOTICE-clause-gives g c = λ _ _ _ _ notice. rw (c.in_payload.ensures, c.place-place.ensures)
@@ -14,9 +13,7 @@ returns-then-length-lt-LEAST_NOTICE-clause-gives g c = λ _ _ _ _ notice. rw (c.
     c.if-length-lt-LEAST_NOTICE.true c.in_ok-fill.ensures.between)
 
 pub returns-in_err-read_into-clause-gives : goal.returns-in_err-read_into-clause-gives
-returns-in_err-read_into-clause-gives g c = λ _ _ _ _ notice. N.passed _ _ _ _ c.from_residual-in_err-read_into.ensures.1
-    (N.Bodies.body_cut _ _ notice {element = c.fill.new.to} (search rules) (omega (N.arith, c.if-length-lt-LEAST_NOTICE.false, c.from.ensures))
-    (c.in_err-read_into.ensures.gives c.in_ok-fill.ensures.payload.going))
+returns-in_err-read_into-clause-gives g c = grind (N.arith, N.common_steps, N.passed, N.Bodies.body_cut)
 
 pub returns-then-not-lengths_fit-clause-gives : goal.returns-then-not-lengths_fit-clause-gives
 returns-then-not-lengths_fit-clause-gives g c = λ _ _ _ _ notice. let t = c.in_ok-read_into.ensures.gives in

@@ -10,5 +10,5 @@ returns-in_err-fill g c = N.TokenSteps.step_read c.requires.running (search rule
 pub returns : goal.returns
 returns g c = N.TokenSteps.step_read c.requires.running (search rules)
     (λ _ begun. let twelve : N.length c.fill.new.to ≡ 12 = search rules in
-    N.TokenSteps.fixed_reads _ begun _ {which = N.ADone} _ (grind N.arith) twelve (grind N.arith)
+    N.TokenSteps.fixed_reads _ begun {which = N.ADone} _ (grind N.arith) twelve (grind N.arith)
     (N.TokenLaws.tracks_quiet begun.tracks _ refl (grind N.arith)) refl)

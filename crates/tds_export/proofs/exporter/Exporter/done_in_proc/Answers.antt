@@ -9,5 +9,5 @@ returns-in_err-pass g c = N.TokenSteps.step_read c.requires.running (search N.ru
 
 pub returns : goal.returns
 returns g c = N.TokenSteps.step_read c.requires.running (search N.rules) (λ _ begun. let all = c.in_ok-pass.ensures.all in
-    N.TokenSteps.fixed_reads _ begun _ {which = N.ADoneInProc} _ c.in_ok-pass.ensures.place all.counted all.takes
+    N.TokenSteps.fixed_reads _ begun {which = N.ADoneInProc} _ c.in_ok-pass.ensures.place all.counted all.takes
     (N.TokenLaws.tracks_quiet begun.tracks _ refl begun.tracks.final) refl)

@@ -11,11 +11,6 @@ pub returns-in_err-gather_next : goal.returns-in_err-gather_next
 returns-in_err-gather_next g c = step_read c.requires.running (search rules) (λ _ begun. N.passed _ _ _ _ c.from_residual.ensures.1
     (N.TokenSteps.metadata_stops _ begun (c.in_err-gather_next.ensures.gives c.requires.running.payload.going).describing))
 
-pub view-columns-requires : goal.view-columns-requires
-view-columns-requires g c =
-    let gives = rw c.in_default.is at c.in_ok-gather_next.ensures.gives in
-    rw c.bytes.ensures.value (c.args.self.now.description.now.room, gives.0, gives.4)
-
 pub returns-in_err-put_header : goal.returns-in_err-put_header
 returns-in_err-put_header g c = step_read c.requires.running (search rules) (λ _ begun. let sink = c.requires.running.sink in
     let gives = rw c.in_default.is at c.in_ok-gather_next.ensures.gives in

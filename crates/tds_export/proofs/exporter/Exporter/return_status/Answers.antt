@@ -17,4 +17,4 @@ returns g c = N.TokenSteps.step_read c.requires.running (search rules) (λ _ beg
     let status = N.cast_signed N.w32 (N.cast_unsigned N.w32 c.read_i32-status.result) in
     let kept : status ≡ c.read_i32-status.result = search rules in
     let is = kept ∙ c.read_i32-status.ensures ∙ N.ResponseLaws.signed_is _ ∙ N.ap (λ n. N.signed (N.little_number n fields)) (N.sym four) in
-    N.TokenSteps.fixed_reads _ begun _ _ (grind N.arith) four (grind N.arith) (tracks_status _ is begun.tracks) refl)
+    N.TokenSteps.fixed_reads _ begun _ (grind N.arith) four (grind N.arith) (tracks_status _ is begun.tracks) refl)
