@@ -101,7 +101,7 @@ module _ (column : ℕ) where
   length_ends : {c : Conversion} (total : Option ℕ) {content : List ℕ} → is_plain c ≡ true → HoldsTotal c total (length content)
       → Ends (cell column) WholeCell (ChunkLength c total content) (N.rest_of_chunks c total (length content))
   length_ends None plain h = grind (arith, chunks_end)
-  length_ends (Some t) plain (le, even) = grind (arith, chunks_end)
+  length_ends total plain h = grind (arith, chunks_end)
 
   -- A part of a cell followed by what completes it is a whole cell.
   cell_ends : (p : CellPart) → CellReached p → Ends (cell column) WholeCell p (N.rest_of_cell p)
@@ -279,13 +279,11 @@ module _ (room : ℕ) where
   described_ends : 10 ≤ room → (d : N.DescriptionPart) → 0 < (N.description room).size d → DescribedReached room d
       → DescriptionEnds room d (N.rest_of_description d)
   described_ends ten N.BeforeCount o h = then_ends {e = 1 ∷ 0 ∷ []} (grind (arith, spelt_one)) (ints_end (1 ∷ 0 ∷ []) 1 [] 0 refl (omega arith))
-  described_ends ten (InColumn bytes count cols ColumnHead) o (fewer, valid, fits) = grind (arith, ints_end)
   described_ends ten (InColumn bytes count cols (N.ColumnInfo byte)) o (fewer, valid, fits) = rw N.append_assoc (info_ends _ _ _ _ _ refl fewer fits)
-  described_ends ten (InColumn bytes count cols (N.NameCount kind)) o (fewer, valid, (v, fits)) = grind (arith, count_ends)
   described_ends ten (InColumn bytes count cols (N.NameUnits kind m)) o (fewer, valid, (v, some, fits)) =
       let l : length (zeros m) ≡ m = N.length-replicate m 0 in
       then_ends {e = zeros m} (spelt_one (omega arith) l refl refl) (grind (arith, column_ends, N.length-append))
-  described_ends ten d o h = grind arith
+  described_ends ten d o h = grind (arith, ints_end, count_ends)
 
 -- ---- what completes a return value is read as its rest
 
@@ -299,8 +297,7 @@ ReturnReached _ = ⊤
 -- Each element keeps what is known.
 return_keeps : (p : N.ReturnPart) {e : List ℕ} → AreBytes e → ReturnReached p → N.IsNext return_value p e → ReturnReached (N.return_add p e)
 return_keeps (N.ReturnInfo name byte) are h n = grind arith
-return_keeps (N.InReturnCell name kind part) are h n = grind (arith, cell_keeps)
-return_keeps p are h n = grind arith
+return_keeps p are h n = grind (arith, cell_keeps)
 
 -- the rest of a return value, up to its end
 abbrev ReturnEnds : N.ReturnPart → List ℕ → Type 0

@@ -40,8 +40,7 @@ start_grows tokens start (N.Some columns) = N.grows_trans _ _ _ (N.grows_under (
 -- a description in its response
 with_described_grows : (tokens : List Token) (d : N.DescriptionPart) → Grows (text tokens ++ []) (text_so_far (N.with_described tokens d))
 with_described_grows tokens N.NoDescription = token_grows tokens N.NoMetadata
-with_described_grows tokens (N.WholeDescription bytes columns) = token_grows tokens _
-with_described_grows _ d = grows_same _
+with_described_grows tokens d = grind (arith, token_grows, grows_same)
 
 -- a return value in its response
 with_return_grows : (tokens : List Token) (part : N.ReturnPart) → Grows (text tokens ++ []) (text_so_far (N.with_return tokens part))

@@ -164,11 +164,6 @@ type_begins _ _ n b _ _ spelt named seven known = N.choose (λ p. ReturnMeans p 
 
 -- each element keeps the meaning
 pub return_step : (p : N.ReturnPart) (b e : List ℕ) → N.AreBytes e → ReturnMeans p b → N.IsNext return_value p e → ReturnMeans (N.return_add p e) (b ++ e)
-return_step N.ReturnOrdinal b e bytes h n = cc
-return_step N.ReturnNameCount b e bytes h n = grind (arith, N.one_byte)
-return_step (N.ReturnHead name) b e bytes h n =
-    let s = N.split_last 7 e n.whole in
-    grind (arith, N.get_or-append_seam, type_begins)
 return_step (N.ReturnInfo name byte) b e bytes h n =
     let k = N.is_some_value _ (grind arith) in
     value_begins h.1 (byte ∷ e) k.1 (grind (arith, append_assoc)) h.3 h.4 k.1
@@ -184,7 +179,7 @@ return_step (N.InReturnCell name kind part) b e bytes h n =
       type = h.type;
       begun = grind (arith, N.cell_step);
     })
-return_step p b e bytes h n = grind (arith, append_assoc)
+return_step p b e bytes h n = grind (arith, N.common_steps, N.one_byte, N.split_last, type_begins)
 
 -- ---- what a response's spelling is read as
 

@@ -129,19 +129,27 @@ module _ (charset : N.Charset) (room : ℕ) where
   -- each element keeps the meaning
   part_step : {tokens : List Token} (at : N.Open) (b : List ℕ) {e : List ℕ} → N.AreBytes e → OpenMeans tokens at b
       → N.IsNext (N.response charset room) (part_at tokens at) e → PartMeans (N.part_add charset tokens at e) (b ++ e)
-  part_step N.Between b bytes h n = grind (arith, byte_step, N.one_byte)
-  part_step (N.Describing d) b {e} bytes h n = with_described_means _ (further e h (grind (arith, N.described_step)))
   part_step (N.InRow part) b {e} bytes (columns, nbc, is, h) n = with_row_means _ _ is (further e h (grind (arith, N.row_step)))
-  part_step (N.InReturn part) b {e} bytes h n = with_return_means _ (further e h (grind (arith, return_step)))
   part_step (N.TokenLength k) b {e} bytes h n =
       let t = N.two_bytes e n.whole bytes in
       let read = ap (λ v. v ++ e) h.follows ∙ t.0 in
       N.choose (λ p. PartMeans p (b ++ e)) _ _ _ (λ z. body_means (further e h (read ∙ ap (λ v. v % 256 ∷ v / 256 ∷ []) (N.eq_true _ 0 z), omega arith))
       (grind arith)) (λ z. further e h (read, t.1))
-  part_step (N.TokenBody k m) b {e} bytes h n = body_means (further e h (cc, (omega arith))) n.free
   part_step {tokens} (N.Fields f) b {e} bytes h n =
       let to : AfterLead tokens (N.WithFields f) (λ rest. rest ≡ e) (b ++ e) = further e h (cc) in
       token_means _ to (grind arith)
+  part_step at b bytes h n = grind (
+    arith,
+    N.common_steps,
+    byte_step,
+    N.one_byte,
+    with_described_means,
+    further,
+    N.described_step,
+    with_return_means,
+    return_step,
+    body_means,
+  )
 
   -- What is read as a part of a response is spelt so.
   part_is_spelt : {bytes : List ℕ} {p : N.Part} → N.AreBytes bytes → N.Spelt (N.response charset room) N.response_start bytes p → PartMeans p bytes
