@@ -4,7 +4,7 @@ use N.{Bool, Kind, List, None, Option, Some, arith, least_info, refl, true, ℕ,
 use N.{Conversion, Null, ShortData, Spelt, Time, WholeCell, WholeRow, Windows1252, [], bit, cell, false, is_valid, length, marked, row, suc, unit, zero}
 use N.{zeros, ⊤, ◌%◌, ◌++◌, ◌+◌, ◌∙◌, ◌≤◌, ColumnHead, InColumn, int_columns, ◌*◌, ◌-◌, Guid, AreBytes, Done, InRow, Open, Token, response}
 use N.ResponseLaws.{spelt_both, spelt_one, spelt_inside, value_agrees, body_is_read, described_after-append, row_agrees, return_agrees, part_at}
-use N.SomeBytes.{Ends, exactly, then_ends, AreBytes-append}
+use N.SomeBytes.{Ends, exactly, then_ends, AreBytes-append, AreBytes-replicate}
 use N.TokenLaws.{bare, bare_body, bare_fixed}
 use N.Words.{named_kind, rest_length, return_value}
 
@@ -202,27 +202,6 @@ AreValid-append : (cs : List Column) (c : Column) → AreValid cs → is_valid c
 AreValid-append [] c h v = (v, tt)
 AreValid-append (d ∷ cs) c h v = (h.0, AreValid-append cs c h.1 v)
 
-module _ (room : ℕ) where
-  -- Each element keeps what is known.
-  described_keeps : {d : N.DescriptionPart} {e : List ℕ} → AreBytes e → DescribedReached room d → N.IsNext (N.description room) d e
-      → DescribedReached room (N.add_described d e)
-  described_keeps = grind (
-    arith,
-    N.choose,
-    AreValid-append,
-    N.eq_false,
-    N.known_type,
-    N.bare_type,
-    N.eq_true,
-    N.is_some_value,
-    N.some_kind,
-    N.valid_of,
-    N.length-append,
-    N.not_zero,
-    N.room_for,
-    N.not_long,
-  )
-
 -- the column that int_column describes
 abbrev int : Column
 int = record { kind = N.Int4; name = [] }
@@ -344,9 +323,6 @@ OpenReached _ (N.InReturn part) = (0 < return_value.size part) × ReturnReached 
 OpenReached _ (N.TokenBody b n) = (0 < n) × (N.is_notice b ≡ true → 14 ≤ n)
 OpenReached _ at = ⊤
 
-AreBytes-zeros : (n : ℕ) → AreBytes (zeros n)
-AreBytes-zeros = grind (arith, N.SomeBytes.AreBytes-replicate)
-
 AreBytes-ints : (n : ℕ) → AreBytes (int_columns n)
 AreBytes-ints zero = tt
 AreBytes-ints (suc n) = grind (arith, (AreBytes-ints n))
@@ -354,9 +330,6 @@ AreBytes-ints (suc n) = grind (arith, (AreBytes-ints n))
 AreBytes-zero_chunks : (n : ℕ) → AreBytes (N.zero_chunks n)
 AreBytes-zero_chunks zero = tt
 AreBytes-zero_chunks (suc n) = grind (arith, (AreBytes-zero_chunks n))
-
-AreBytes-cell : (p : CellPart) → AreBytes (N.rest_of_cell p)
-AreBytes-cell = grind (arith, AreBytes-append, AreBytes-zero_chunks, AreBytes-zeros)
 
 AreBytes-cells : (ks : List (Column × Bool)) → AreBytes (N.rest_of_cells ks)
 AreBytes-cells [] = tt
@@ -377,19 +350,24 @@ module _ (room : ℕ) where
   open_keeps : {tokens : List Token} (at : Open) {e : List ℕ} → AreBytes e → CurrentReached (N.described_after None tokens) → OpenReached room at
       → N.IsNext (response Windows1252 room) (part_at tokens at) e → PartReached room (N.part_add Windows1252 tokens at e)
   open_keeps (N.TokenLength b) are h o n = grind (arith, bare, bare_body, described_after-append, N.choose, N.eq_false, N.nat_tests)
-  open_keeps at are h o n =
-      grind (
-        arith,
-        marked_valid,
-        next_reached,
-        described_after-append,
-        described_keeps,
-        cell_keeps,
-        bare,
-        return_keeps,
-        bare_body,
-        bare_fixed,
-      )
+  open_keeps (N.Describing d) are h o n = grind (
+    arith,
+    N.choose,
+    AreValid-append,
+    N.eq_false,
+    N.known_type,
+    N.bare_type,
+    N.eq_true,
+    N.is_some_value,
+    N.some_kind,
+    N.valid_of,
+    N.length-append,
+    N.not_zero,
+    N.room_for,
+    N.not_long,
+    described_after-append,
+  )
+  open_keeps at are h o n = grind (arith, marked_valid, next_reached, described_after-append, cell_keeps, bare, return_keeps, bare_body, bare_fixed)
 
   part_reached : {bytes : List ℕ} {p : N.Part} → AreBytes bytes → Spelt (response Windows1252 room) N.response_start bytes p → PartReached room p
   part_reached {p} are h = N.SomeBytes.bytes_induct (λ q b. PartReached room q) (grind (arith, open_keeps)) _ (tt, tt) _ p are h
@@ -434,7 +412,7 @@ can_be_completed _ _ _ ten are h =
     let r = part_reached _ are h in
     let end = token_ends _ ten _ _ r.1 in (
       end.0 ++ Done false ∷ [],
-      N.ResponseMeaning.response_is_spelt _ _ (grind (arith, AreBytes-append, AreBytes-ints, AreBytes-cell, AreBytes-cells, AreBytes-zeros))
+      N.ResponseMeaning.response_is_spelt _ _ (grind (arith, AreBytes-append, AreBytes-ints, AreBytes-zero_chunks, AreBytes-cells, AreBytes-replicate))
           (N.TokenLaws.is_final-snoc end.0 (Done false))
           (spelt_both h (spelt_both end.1 (done_ends _ _))),
     )

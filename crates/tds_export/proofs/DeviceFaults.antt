@@ -53,16 +53,13 @@ blamed {given} {stopped} x = go x.stops
     is : stopped.fault ≡ x.stop.fault
     is = cc
 
-    ends : (failed : x.failed ≡ N.true) → x.middle.failures ≡ given.after.writer.failures
-    ends = grind arith
-
     go : N.RunStops (N.grammar_of given) N.response_start (N.begun_at given) x.seen 0 (N.fresh_at given) x.middle given.after.areas.description x.failed x.stop
         → Blamed given stopped
     go (inl (inl y)) =
         let r = reading_fault _ _ _ _ y.0.stops in
         grind arith
-    go (inl (inr y)) = grind (arith, is, ends)
-    go (inr y) = grind (arith, is, ends)
+    go (inl (inr y)) = grind (arith, is)
+    go (inr y) = grind (arith, is)
 
 -- ---- no device failed
 

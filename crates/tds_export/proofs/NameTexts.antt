@@ -67,11 +67,6 @@ module _ {W : Type 0} {contents : W → Option (List ℕ)} {columns left rest : 
       let more = begins m.0.done rest in
       rw (← m.0.split, ← more.1, ← m.1) (passed_piece more.0 is_passed (then_puts x.puts broke))
 
--- all names were put
-pub names_all : {W : Type 0} {contents : W → Option (List ℕ)} {columns left : List Column} {index : ℕ} {a b : Sink W} → left ≡ []
-    → NamesPut contents columns left index a b → PutsPiece contents a b (N.header_line columns) (Ok (tt {0}))
-names_all = grind (arith, N.append-nil)
-
 -- ---- the line between two sets and then the names, written to a slice
 
 -- The names of the columns but these last ones were written to the front of a slice, after the line between two sets.

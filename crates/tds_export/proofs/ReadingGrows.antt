@@ -47,12 +47,7 @@ with_return_grows : (tokens : List Token) (part : N.ReturnPart) → Grows (text 
 with_return_grows tokens (N.WholeReturn r) = token_grows tokens _
 with_return_grows _ _ = grows_same _
 
--- ---- the span
-
-module _ (room : ℕ) where
-  -- each element of a description adds to its span
-  description_span : {d : N.DescriptionPart} {e : List ℕ} → IsNext (N.description room) d e → N.span d ≤ N.span (N.add_described d e)
-  description_span = grind (arith, N.choose, N.is_some_value, N.known_type, N.length-append, N.some_kind, N.bare_type, N.eq_true)
+-- ---- the text and the span
 
 module _ (charset : N.Charset) (room : ℕ) where
   -- each element adds to the text, by where it is read
@@ -74,4 +69,4 @@ module _ (charset : N.Charset) (room : ℕ) where
   -- and to the span
   pub span_along : {p q : Part} {bytes : List ℕ} → N.Spelt (N.response charset room) p bytes q → N.span_so_far p ≤ N.span_so_far q
   span_along {p} {q} s = N.Spelt-induct _ (λ r b. N.span_so_far p ≤ N.span_so_far r)
-      (grind (arith, description_span, N.TokenLaws.greatest_span-append)) p (omega arith) _ q s
+      (grind (arith, N.common_steps, N.choose, N.is_some_value, N.known_type, N.some_kind, N.bare_type, N.eq_true, N.TokenLaws.greatest_span-append)) p (omega arith) _ q s

@@ -144,7 +144,6 @@ module _ (charset : N.Charset) (room : ℕ) where
     byte_step,
     N.one_byte,
     with_described_means,
-    further,
     N.described_step,
     with_return_means,
     return_step,

@@ -46,10 +46,6 @@ long_length c bytes = omega (arith, conversion_length c bytes, length-append (N.
 
 -- ---- the text of a scalar
 
--- an integer fits
-integer_fits : (n : ℕ) (xs : List ℕ) → N.AreBytes xs → N.unsigned_abs (N.integer_of n xs) < 2 ^ 64
-integer_fits = grind (arith, byte_below, choose)
-
 -- the numbers of a value, if there is one, fit
 abbrev AllFit : N.Option N.ScalarValue → Type 0
 AllFit None = ⊤
@@ -57,7 +53,7 @@ AllFit (Some v) = N.FitsWidths v
 
 -- the bytes of a kind spell numbers that fit
 values_fit : (kind : N.Kind) (e : List ℕ) → N.AreBytes e → N.is_length_allowed kind (length e) ≡ true → AllFit (N.value_of kind e)
-values_fit = grind (arith, N.common_steps, integer_fits, little_below)
+values_fit = grind (arith, N.common_steps, byte_below, choose, little_below)
 
 -- the text of a value that is read
 abbrev ReadShort : N.Result N.ScalarValue N.ValueFault → Type 0
@@ -106,9 +102,6 @@ abbrev row_most : N.RowPart → ℕ
 row_most (N.Bitmap columns) = 0
 row_most (N.InCell cells part ks) = length (joined (N.map N.field cells)) + 1 + cell_most part + 5 * how_many_null ks
 row_most (N.WholeRow cells) = length (joined (N.map N.field cells)) + 2
-
-row_length : (part : N.RowPart) → length (N.row_so_far part) ≤ row_most part
-row_length = grind (arith, length-append, one_more_length, open_length)
 
 -- no more of them than columns
 null_most : (columns : List Column) (nulls : ℕ → Bool) (k : ℕ) → how_many_null (N.marked columns nulls k) ≤ length columns
@@ -204,4 +197,4 @@ module _ (charset : N.Charset) (room : ℕ) where
   -- the text so far is at most 64 times as long as all that is read
   pub bounded_along : {q : Part} {bytes : List ℕ} → N.AreBytes bytes → N.Spelt (response charset room) N.response_start bytes q
       → length (N.text_so_far q) ≤ 64 * length bytes
-  bounded_along are h = grind (arith, grown_along are h, row_length, length-append)
+  bounded_along are h = grind (arith, grown_along are h, one_more_length, open_length, length-append)

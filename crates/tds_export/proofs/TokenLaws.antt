@@ -115,10 +115,6 @@ is_quiet (N.Done more) = true
 is_quiet (N.DoneInProc more) = true
 is_quiet t = false
 
--- where a token begins, the tokens before it are known
-pub tracks_begun : {s : N.Progress} {ts : List Token} → Tracks s ts → N.TracksBefore (record s { is_final = false }) ts
-tracks_begun = grind arith
-
 -- with so many rows more
 abbrev pub with_rows : N.Progress → ℕ → N.Progress
 with_rows s n = record s { report = record s.report { rows = s.report.rows + n } }

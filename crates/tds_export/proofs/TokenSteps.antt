@@ -280,15 +280,6 @@ rows_hold tokens (r ∷ rs) h = rw (append_assoc tokens (Row r ∷ []) (map Row 
 
 -- ---- what the call that reads them gives
 
--- whether these tokens describe columns
-abbrev pub Describe : List Token → Bool → Type 0
-Describe tokens described = N.IsDescribed described (N.encoded_after [] tokens) (N.described_after None tokens)
-
--- the columns that the area describes are the current ones
-columns_known : (tokens : List Token) {described : Bool} {bytes : List ℕ} → described ≡ true → bytes ≡ N.encoded_after [] tokens
-    → Describe tokens described → N.described_after None tokens ≡ Some (columns_of bytes)
-columns_known = grind arith
-
 module _ {which : N.RowToken} {charset : Charset} {columns : List N.Column} {after : SinkView} {tokens : List Token} {u : View} {b : PayloadView} {s :
     Progress}
     (described : s.described ≡ true) (shown : columns ≡ columns_of u.area.bytes) (begun : OpenTexts tokens s u) where
@@ -299,7 +290,7 @@ module _ {which : N.RowToken} {charset : Charset} {columns : List N.Column} {aft
   rows_read y =
       let x = rw shown at y in
       let long = N.length-append x.earlier (x.last ∷ []) in
-      let there = rows_stream _ _ _ _ _ (columns_known tokens described begun.holds.bytes begun.tracks.described) x.streams in
+      let there = rows_stream _ _ _ _ tokens (grind arith) x.streams in
       let end = ap after_tokens (append_assoc tokens (map Row x.earlier) (Row x.last ∷ [])
       ∙ ap (λ l. tokens ++ l) (sym (N.map-append Row x.earlier (x.last ∷ [])))) in
       quietly begun refl (record {
@@ -333,7 +324,7 @@ some_columns = grind arith
 
 pub begins_lead : {charset : Charset} {room : ℕ} {tokens : List Token} {byte : ℕ} {described : Bool} {bytes : List ℕ} {begun : N.Lead}
     → (N.lead_of byte ≡ Some begun) × N.IsUnder described begun → bytes ≡ N.encoded_after [] tokens → (described ≡ true → N.IsDescription bytes)
-    → Describe tokens described → BeginsToken charset room tokens byte (N.in_lead charset (columns_of bytes) begun tokens)
+    → N.IsDescribed described (N.encoded_after [] tokens) (N.described_after None tokens) → BeginsToken charset room tokens byte (N.in_lead charset (columns_of bytes) begun tokens)
 begins_lead = grind (arith, some_columns, start_text)
 
 -- the first byte of a token is read, and nothing put for it
@@ -372,7 +363,7 @@ module _ {charset : Charset} {room byte : ℕ} {tokens : List Token} {to : Part}
 module _ (charset : Charset) (room : ℕ) {place : ℕ} {tokens : List Token} {a b : PayloadView} {h : SinkView} {area : Space} {failed : Bool}
     (d : h.delivered ≤ 2 ^ 64 - 1) (going : failed ≡ false) (holds : IsHolding area (after_tokens tokens)) where
   -- a byte begins no token
-  pub stops_at_byte : {byte : ℕ} {described : Bool} {fault : Fault} → Describe tokens described → N.IsRefusedByte described byte fault
+  pub stops_at_byte : {byte : ℕ} {described : Bool} {fault : Fault} → N.IsDescribed described (N.encoded_after [] tokens) (N.described_after None tokens) → N.IsRefusedByte described byte fault
       → N.Takes a b (byte ∷ []) 1 → N.IsBetween b
       → N.StepStops (response charset room) (after_tokens tokens) a b place h h area failed (record { fault = fault; place = N.Payload place })
   stops_at_byte {byte} {described} {fault} k why t between =

@@ -29,10 +29,6 @@ pub record ReaderSide (run : Run) (q : PayloadView) : Type 0 where
 abbrev pub start : Run → PayloadView
 start run = N.begun (limits run).packet_size (limits run).max_wire (Some run.input) run.given.before.reader.failures
 
--- the bytes after a state
-rest_of : (bytes : List ℕ) {part payload : List ℕ} → payload ≡ bytes ++ part → drop (length bytes) payload ≡ part
-rest_of = grind (arith, N.drop-append_seam)
-
 module _ (run : Run) {q : PayloadView} {part : Part} {bytes : List ℕ} (side : ReaderSide run q) (spelt : Spelt (grammar run) response_start bytes part)
     (holds : N.IsHolding run.given.after.areas.description part) (text : text_put run ≡ text_so_far part) where
   -- what the area holds is kept
@@ -53,7 +49,7 @@ module _ (run : Run) {q : PayloadView} {part : Part} {bytes : List ℕ} (side : 
         part = part;
         stands = grind arith;
         leads = rw payload (N.longest_refused g _ _ _ _ _ spelt refused);
-        first = grind (arith, rest_of, length-append);
+        first = grind (arith, N.drop-append_seam, length-append);
         written = text;
         kept = kept b.packets;
       }
@@ -68,7 +64,7 @@ module _ (run : Run) {q : PayloadView} {part : Part} {bytes : List ℕ} (side : 
       part = part;
       stands = grind arith;
       leads = rw m.payload_is (N.longest_cut _ _ _ _ _ spelt short);
-      first = grind (arith, rest_of);
+      first = grind (arith, N.drop-append_seam);
       written = text;
       kept = kept m.packets;
     }
@@ -88,7 +84,7 @@ module _ (run : Run) {q : PayloadView} {part : Part} {bytes : List ℕ} (side : 
           taken_is = refl;
           first = grind arith;
           leads = rw x.payload_is (N.longest_cut (grammar run) _ bytes cut part spelt short);
-          none_refused = grind (arith, rest_of);
+          none_refused = grind (arith, N.drop-append_seam);
           written = text;
           kept = kept x.packets;
         }
@@ -395,7 +391,7 @@ begins_run _ e = cc
 -- all of the text was put, where the whole response was read
 whole_puts : {g : N.Grammar Part Fault} {a q : PayloadView} {h k : SinkView} {area : N.Space} → (x : N.ReadsWhole g response_start a q h k area)
     → Puts h k (text x.tokens)
-whole_puts = grind (arith, text_after_tokens)
+whole_puts = grind (arith, append-nil)
 
 -- what is told of a stop, with the sink left in this state
 abbrev StopTold : ExportInput → (input left : List ℕ) → Stop → SinkView → Type 0

@@ -13,6 +13,3 @@ returns-in_err-put_name g c = N.NameTexts.name_breaks c.in-Some.ensures.steps c.
 
 pub names-preserved : goal.names-preserved
 names-preserved g c = N.NameTexts.names_more c.in-Some.ensures.steps c.names.invariant c.count-count.ensures.value c.in_ok-put_name.ensures
-
-pub returns : goal.returns
-returns g c = grind (N.arith, N.common_steps, N.NameTexts.names_all)

@@ -11,7 +11,7 @@ returns-in_err-byte-clause-gives g c = λ _ tracks holds noted. let sink = c.req
 
 pub returns-in_ok-body-in-Ok-clause-gives : goal.returns-in_ok-body-in-Ok-clause-gives
 returns-in_ok-body-in-Ok-clause-gives g c = λ tokens tracks holds noted. let read = rw c.in-Some.is at c.in_ok-byte.ensures.gives in
-    let x = c.in_ok-body-in-Ok.ensures.reads tokens (N.TokenLaws.tracks_begun tracks) holds noted in (
+    let x = c.in_ok-body-in-Ok.ensures.reads tokens (grind N.arith) holds noted in (
       N.TokenSteps.reads_after_byte (N.TokenSteps.begins_lead c.in-Ok.ensures holds.bytes c.requires.described tracks.described) c.requires.sink.ready.2
           read.takes read.place_is x.0,
       x.1,
@@ -21,7 +21,7 @@ pub returns-in_err-body-in-Ok-clause-gives : goal.returns-in_err-body-in-Ok-clau
 returns-in_err-body-in-Ok-clause-gives g c = λ tokens tracks holds noted. let read = rw c.in-Some.is at c.in_ok-byte.ensures.gives in
     N.passed _ _ _ _ c.from_residual-in_err-body-in-Ok.ensures.1 (N.TokenSteps.stops_after_byte (N.TokenSteps.begins_lead
     c.in-Ok.ensures holds.bytes c.requires.described tracks.described) c.requires.sink.ready.2 read.takes read.place_is
-    (c.in_err-body-in-Ok.ensures.reads tokens (N.TokenLaws.tracks_begun tracks) holds noted))
+    (c.in_err-body-in-Ok.ensures.reads tokens (grind N.arith) holds noted))
 
 -- ---- a byte that begins no token
 
