@@ -287,9 +287,6 @@ value_ends name kind _ h =
     let x = cell_ends _ _ h in
     (record { name = name; kind = kind; value = x.0 }, spelt_inside value_agrees x.1)
 
-kind_ends : (name : List ℕ) {kind : Kind} {o : Option Kind} → o ≡ Some kind → is_valid kind ≡ true → ReturnEnds (N.with_return_kind name o) (N.rest_of_value o)
-kind_ends _ is v = rw is (value_ends _ _ _ (grind arith))
-
 head_ends : {name : List ℕ} → ReturnEnds (N.ReturnHead name) N.rest_of_return_head
 unfolding rest_length named_kind
 head_ends {name} = then_ends {t = N.ReturnInfo name 0x24} {e = zeros 7 ++ 0x24 ∷ []} (grind (arith, spelt_one))
@@ -309,7 +306,7 @@ return_ends (N.ReturnHead name) h = head_ends
 return_ends (N.ReturnInfo name byte) (n, known, some) =
     let least = least_type byte known in
     then_ends {e = least_info byte} (spelt_one (grind arith) (grind arith) (grind arith) refl)
-    (kind_ends _ least.1 (grind arith))
+    (rw least.1 (value_ends name _ _ (grind arith)))
 return_ends (N.InReturnCell name kind part) (begun, h) = let all = value_ends name kind part h in grind arith
 return_ends (N.WholeReturn r) h = (r, N.Spelt-none _ _)
 
@@ -369,9 +366,6 @@ module _ (room : ℕ) where
   )
   open_keeps at are h o n = grind (arith, marked_valid, next_reached, described_after-append, cell_keeps, bare, return_keeps, bare_body, bare_fixed)
 
-  part_reached : {bytes : List ℕ} {p : N.Part} → AreBytes bytes → Spelt (response Windows1252 room) N.response_start bytes p → PartReached room p
-  part_reached {p} are h = N.SomeBytes.bytes_induct (λ q b. PartReached room q) (grind (arith, open_keeps)) _ (tt, tt) _ p are h
-
   -- The rest of the token that is read ends it.
   token_ends : 10 ≤ room → (tokens : List Token) (at : Open) → OpenReached room at
       → Ends (response Windows1252 room) N.after_tokens (part_at tokens at) (N.rest_of_token at)
@@ -408,8 +402,8 @@ module _ (room : ℕ) where
 
 -- Whatever has been read can be completed.
 pub can_be_completed : N.CanBeCompleted
-can_be_completed _ _ _ ten are h =
-    let r = part_reached _ are h in
+can_be_completed room _ _ ten are h =
+    let r = N.SomeBytes.bytes_induct (λ q b. PartReached room q) (grind (arith, open_keeps)) _ (tt, tt) _ _ are h in
     let end = token_ends _ ten _ _ r.1 in (
       end.0 ++ Done false ∷ [],
       N.ResponseMeaning.response_is_spelt _ _ (grind (arith, AreBytes-append, AreBytes-ints, AreBytes-zero_chunks, AreBytes-cells, AreBytes-replicate))

@@ -150,11 +150,10 @@ module _ (charset : N.Charset) (room : ℕ) where
     body_means,
   )
 
-  -- What is read as a part of a response is spelt so.
-  part_is_spelt : {bytes : List ℕ} {p : N.Part} → N.AreBytes bytes → N.Spelt (N.response charset room) N.response_start bytes p → PartMeans p bytes
-  part_is_spelt {p} are h = N.SomeBytes.bytes_induct _ (λ q b e k are n. part_step _ b are k n) _ refl _ p are h
-
   -- What is read between tokens, after a final one, is a response.
   pub response_is_spelt : {payload : List ℕ} {tokens : List Token} → N.AreBytes payload → N.is_final tokens ≡ true
       → N.Spelt (N.response charset room) N.response_start payload (N.after_tokens tokens) → N.Response charset room tokens payload
-  response_is_spelt are final h = record { spelt = part_is_spelt are h; final = final }
+  response_is_spelt are final h = record {
+    spelt = N.SomeBytes.bytes_induct PartMeans (λ q b e k are n. part_step _ b are k n) _ refl _ _ are h;
+    final = final;
+  }

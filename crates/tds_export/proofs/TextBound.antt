@@ -189,12 +189,9 @@ module _ (charset : N.Charset) (room : ℕ) where
     length-append,
   )
 
-  -- so do all elements between two states
-  grown_along : {p q : Part} {bytes : List ℕ} → N.AreBytes bytes → N.Spelt (response charset room) p bytes q → grown q ≤ grown p + 64 * length bytes
-  grown_along {p} {q} are h = N.SomeBytes.bytes_induct (λ r b. grown r ≤ grown p + 64 * length b) (grind (arith, grown_more, length-append)) p
-      (omega arith) _ q are h
-
   -- the text so far is at most 64 times as long as all that is read
   pub bounded_along : {q : Part} {bytes : List ℕ} → N.AreBytes bytes → N.Spelt (response charset room) N.response_start bytes q
       → length (N.text_so_far q) ≤ 64 * length bytes
-  bounded_along are h = grind (arith, grown_along are h, one_more_length, open_length, length-append)
+  bounded_along {q} are h =
+      let all = N.SomeBytes.bytes_induct (λ r b. grown r ≤ 64 * length b) (grind (arith, grown_more, length-append)) _ (omega arith) _ q are h in
+      grind (arith, one_more_length, open_length, length-append)

@@ -352,24 +352,3 @@ module _ {charset : Charset} {room byte : ℕ} {tokens : List Token} {to : Part}
     tracks = r.tracks;
     holds = r.holds;
   }
-
-  -- and so it stops
-  pub stops_after_byte : {failed : Bool} {stop : Stop} → N.StepStops (response charset room) to b c middle h k area failed stop
-      → N.StepStops (response charset room) (after_tokens tokens) a c place h k area failed stop
-  stops_after_byte x = stops_further (first begins d t) at x
-
--- ---- between tokens
-
-module _ (charset : Charset) (room : ℕ) {place : ℕ} {tokens : List Token} {a b : PayloadView} {h : SinkView} {area : Space} {failed : Bool}
-    (d : h.delivered ≤ 2 ^ 64 - 1) (going : failed ≡ false) (holds : IsHolding area (after_tokens tokens)) where
-  -- a byte begins no token
-  pub stops_at_byte : {byte : ℕ} {described : Bool} {fault : Fault} → N.IsDescribed described (N.encoded_after [] tokens) (N.described_after None tokens) → N.IsRefusedByte described byte fault
-      → N.Takes a b (byte ∷ []) 1 → N.IsBetween b
-      → N.StepStops (response charset room) (after_tokens tokens) a b place h h area failed (record { fault = fault; place = N.Payload place })
-  stops_at_byte {byte} {described} {fault} k why t between =
-      stops_quietly refl holds d going (N.refused_at_once _ _ a b _ (byte ∷ []) fault (omega arith) refl (grind arith) t between)
-
-  -- the payload stopped
-  pub stops_between : {stop : Stop} → N.Ends a b [] stop → (stop.fault ≡ N.MessageEnded → ⊥)
-      → N.StepStops (response charset room) (after_tokens tokens) a b place h h area failed stop
-  stops_between ends other = stops_quietly refl holds d going (grind arith)
