@@ -189,11 +189,6 @@ module _ (charset : N.Charset) {tokens : List Token} {s : N.Progress} {u : N.Vie
       → StopsQuiet charset (in_length which tokens) u b stop
   notice_stops x = stops_quietly (grind (arith, x.in_body)) (grind (arith, x.in_body)) begun.delivered begun.going x.stops
 
-  -- an INFO was read
-  pub info_reads : {place : ℕ} {body : List ℕ} → N.ReadsNotice charset u.area.room tokens N.AnInfo u.seen b u.place place body
-      → ReadsQuiet charset (in_length N.AnInfo tokens) tokens u b place (record s { report = record s.report { infos = s.report.infos + 1 } })
-  info_reads x = quietly begun refl (bare_reads begun _ x.reads x.place_is refl refl (grind (arith, N.TokenLaws.tracked)))
-
   module _ {place : ℕ} {body : List ℕ} (x : N.ReadsNotice charset u.area.room tokens N.AnError u.seen b u.place place body) where
     abbrev error_reads : {first : N.Option N.ServerError} → first ≡ N.option_map N.server_error (first_error (tokens ++ N.Error (N.notice_of body) ∷ []))
         → N.ReadsTokens (response charset u.area.room) (in_length N.AnError tokens) tokens u.seen b u.place place u.held u.held

@@ -395,11 +395,6 @@ module _ (room : ℕ) where
       let l = N.length-replicate (N.fields_length f) 0 in
       (tokens ++ N.fixed f _ ∷ [], spelt_one (grind arith) l refl refl)
 
-  done_ends : (tokens : List Token) → Spelt (response Windows1252 room) (N.after_tokens tokens) N.done (N.with_token tokens (Done false))
-  done_ends tokens =
-      let byte : Spelt (response Windows1252 room) (N.after_tokens tokens) (N.done_byte ∷ []) (part_at tokens (N.Fields N.ADone)) = grind (arith, spelt_one) in
-      spelt_both byte (grind (arith, spelt_one))
-
 -- Whatever has been read can be completed.
 pub can_be_completed : N.CanBeCompleted
 can_be_completed room _ _ ten are h =
@@ -408,5 +403,5 @@ can_be_completed room _ _ ten are h =
       end.0 ++ Done false ∷ [],
       N.ResponseMeaning.response_is_spelt _ _ (grind (arith, AreBytes-append, AreBytes-ints, AreBytes-zero_chunks, AreBytes-cells, AreBytes-replicate))
           (N.TokenLaws.is_final-snoc end.0 (Done false))
-          (spelt_both h (spelt_both end.1 (done_ends _ _))),
+          (spelt_both h (spelt_both end.1 (spelt_both {t = part_at end.0 (N.Fields N.ADone)} {a = N.done_byte ∷ []} (grind (arith, spelt_one)) (grind (arith, spelt_one))))),
     )

@@ -162,20 +162,7 @@ module _ {size limit : ℕ} {input wires : List ℕ} (unread : List ℕ) {packet
       let r = N.read_longest g _ _ (N.Reading _ unread) (rw (N.read_to_end _ _ _ wires _ m) at (N.told g N.no_wire (wires ++ unread))) in
       rw e (length r.0, r.2)
 
-  -- the wire of a message has no fault
-  no_wire_fault : {read : List Packet} {fault : Fault} → N.WireFault size limit input read fault → ⊥
-  no_wire_fault f =
-      let same = (N.one_longest (wire size limit) _ _ _ _ _ _ f.longest message_longest.1).1 in
-      grind arith
-
 -- ---- no stop of an accepted response is one of the input
-
--- the packets read are those of the message, or begin it
-read_begin : {run : Run} {tokens : List Token} {read packets : List Packet} → N.Packets run read → (a : N.IsAccepted run tokens packets) → (more : List ℕ)
-    × (payload_of packets ≡ payload_of read ++ more)
-read_begin p a =
-    let begins = front_begins _ _ _ p.begin p.each p.within (message_longest _ a.message a.begins).1 in
-    grind (arith, N.flat_map-append)
 
 -- no run of an accepted response stops but by a device
 none_stops : (run : Run) (fault : Fault) (place : N.Place) → N.Stops run fault place → (tokens : List Token) (packets : List Packet)
@@ -184,10 +171,11 @@ none_stops run _ (N.Payload place) x tokens _ a reads writes =
     let g = grammar run in
     let payload = payload_of x.packets in
     elim x.first [
-      | inl r ↦ (let more = read_begin x.stands a in
+      | inl r ↦ (let begins = front_begins _ _ _ x.stands.begin x.stands.each x.stands.within (message_longest _ a.message a.begins).1 in
+          let more = payload_of begins.0 in
           let n = place + g.size x.part in
-          refused_response _ _ _ _ _ _ _ _ x.leads r.0 (rw (more.1 ∙ ap (λ v. v ++ more.0) (sym (N.take-append-drop n payload))
-          ∙ N.append_assoc (take n payload) (drop n payload) more.0) at a.response))
+          refused_response _ _ _ _ _ _ _ _ x.leads r.0 (rw (ap payload_of (sym begins.1) ∙ N.flat_map-append _ x.packets begins.0
+          ∙ ap (λ v. v ++ more) (sym (N.take-append-drop n payload)) ∙ N.append_assoc (take n payload) (drop n payload) more) at a.response))
       | inr r ↦ (let all : N.Response run.given.charset (limits run).column_room tokens payload = rw (N.one_message _ _ _ _ _ _ _ _
           (record { spelt = refl; each = r.0; within = x.stands.within }) a.message (x.stands.begin ∙ a.begins)) a.response in
           let longest = N.longest_cut g _ _ [] _ (response_is_read _ _ all) (omega arith) in
@@ -196,7 +184,7 @@ none_stops run _ (N.Payload place) x tokens _ a reads writes =
     ]
 none_stops _ _ (N.Wire taken) x _ _ a reads writes = elim x.first [
   | inl r ↦ reads r.1.failed
-  | inr r ↦ no_wire_fault _ a.message a.begins r
+  | inr r ↦ (let same = (N.one_longest _ _ _ _ _ _ _ r.longest (message_longest _ a.message a.begins).1).1 in grind arith)
 ]
 none_stops run fault (N.Text written) x tokens packets a reads writes = writes x.failed
 
@@ -379,9 +367,6 @@ whole_message_of {run} {a} {q} is side x =
     let most = bounded side.bytes reached x.holds.peak in
     grind (arith, payload_bytes, N.AreBytes-front, response_is_spelt, N.longest_cut)
 
-text_after_tokens : (tokens : List Token) → text_so_far (N.after_tokens tokens) ≡ text tokens
-text_after_tokens = grind (arith, append-nil)
-
 -- ---- what an export answers
 
 -- the payload of a reader that told its bytes begins with them
@@ -468,7 +453,7 @@ report_tells {given} {report} x = λ input are e. let y = x.completes in
     let same = d.all ∙ append-nil (text tokens) in
     let gained = sym (append-nil run.gained) ∙ ap (λ w. run.gained ++ w) (sym empty) ∙ same in
     let few = fits_at run whole.packets left.0 (length (payload_of whole.packets)) (N.after_tokens tokens) (length (text_put run)) are
-    whole.stands.begin whole.stands.within (grind arith) (omega (arith, ap length same, ap length (text_after_tokens tokens))) in
+    whole.stands.begin whole.stands.within (grind arith) (omega (arith, ap length same, ap length (append-nil (text tokens)))) in
     let written = exact run x.held.delivered d.delivered few ∙ ap length gained in
     let outcome : N.Reported run report = record {
       tokens = tokens;
