@@ -19,9 +19,6 @@ abbrev pub names_text : (done left : List Column) → List ℕ
 names_text done [] = N.header_line done
 names_text done (c ∷ cs) = joined (map name_field done)
 
-none_put : (left : List Column) → 0 < length left → names_text [] left ≡ []
-none_put = grind arith
-
 -- The columns but these last ones were named.
 pub record Named (columns left : List Column) (index : ℕ) : Type 0 where
   pub done : List Column
@@ -50,7 +47,8 @@ pub record NamesPut {W : Type 0} (contents : W → Option (List ℕ)) (columns l
 
 pub names_none : {W : Type 0} {contents : W → Option (List ℕ)} {columns left : List Column} {sink : Sink W} → left ≡ columns → 0 < length columns
     → N.IsWriting sink → NamesPut contents columns left 0 sink sink
-names_none {left} e some going = record { names = grind arith; puts = rw (none_put left (rw e some)) (N.PutsPiece-none _ _ _ going) }
+names_none {left} e some going = let none : names_text [] left ≡ [] = grind arith in
+    record { names = grind arith; puts = rw none (N.PutsPiece-none _ _ _ going) }
 
 module _ {W : Type 0} {contents : W → Option (List ℕ)} {columns left rest : List Column} {c : Column} {index count : ℕ} {a b d : Sink W}
     (is : left ≡ c ∷ rest) (x : NamesPut contents columns left index a b) (number : count ≡ length columns) where
