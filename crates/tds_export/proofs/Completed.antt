@@ -403,5 +403,6 @@ can_be_completed room _ _ ten are h =
       end.0 ++ Done false ∷ [],
       N.ResponseMeaning.response_is_spelt _ _ (grind (arith, AreBytes-append, AreBytes-ints, AreBytes-zero_chunks, AreBytes-cells, AreBytes-replicate))
           (N.TokenLaws.is_final-snoc end.0 (Done false))
-          (spelt_both h (spelt_both end.1 (spelt_both {t = part_at end.0 (N.Fields N.ADone)} {a = N.done_byte ∷ []} (grind (arith, spelt_one)) (grind (arith, spelt_one))))),
+          (spelt_both h (spelt_both end.1 (spelt_both {t = part_at end.0 (N.Fields N.ADone)} {a = N.done_byte ∷ []} (grind (arith, spelt_one))
+          (grind (arith, spelt_one))))),
     )

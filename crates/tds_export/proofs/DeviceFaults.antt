@@ -48,18 +48,11 @@ abbrev Blamed : N.ExportInput → N.Stopped → Type 0
 Blamed given stopped = (stopped.fault ≡ ReadFailed → N.FailsToRead given) × (stopped.fault ≡ N.WriteFailed → N.FailsToWrite given)
 
 pub blamed : {given : N.ExportInput} {stopped : N.Stopped} → N.StopsExport given stopped → Blamed given stopped
-blamed {given} {stopped} x = go x.stops
-  where
-    is : stopped.fault ≡ x.stop.fault
-    is = cc
-
-    go : N.RunStops (N.grammar_of given) N.response_start (N.begun_at given) x.seen 0 (N.fresh_at given) x.middle given.after.areas.description x.failed x.stop
-        → Blamed given stopped
-    go (inl (inl y)) =
-        let r = reading_fault _ _ _ _ y.0.stops in
-        grind arith
-    go (inl (inr y)) = grind (arith, is)
-    go (inr y) = grind (arith, is)
+blamed x = elim x.stops [
+  | inl (inl y) ↦ (let r = reading_fault _ _ _ _ y.0.stops in grind arith)
+  | inl (inr y) ↦ grind arith
+  | inr y ↦ grind arith
+]
 
 -- ---- no device failed
 

@@ -69,4 +69,5 @@ module _ (charset : N.Charset) (room : ℕ) where
   -- and to the span
   pub span_along : {p q : Part} {bytes : List ℕ} → N.Spelt (N.response charset room) p bytes q → N.span_so_far p ≤ N.span_so_far q
   span_along {p} {q} s = N.Spelt-induct _ (λ r b. N.span_so_far p ≤ N.span_so_far r)
-      (grind (arith, N.common_steps, N.choose, N.is_some_value, N.known_type, N.some_kind, N.bare_type, N.eq_true, N.TokenLaws.greatest_span-append)) p (omega arith) _ q s
+      (grind (arith, N.common_steps, N.choose, N.is_some_value, N.known_type, N.some_kind, N.bare_type, N.eq_true, N.TokenLaws.greatest_span-append)) p
+      (omega arith) _ q s

@@ -147,8 +147,8 @@ module _ (charset : Charset) (room : ℕ) {place : ℕ} {start : N.RowPart} {are
 
 -- ---- COLMETADATA
 
-some_bytes : (room : ℕ) {area : List ℕ} (bytes : List ℕ) {columns : List N.Column} → N.Spelt (N.description room) N.BeforeCount bytes (N.WholeDescription area columns)
-    → 0 < length bytes
+some_bytes : (room : ℕ) {area : List ℕ} (bytes : List ℕ) {columns : List N.Column}
+    → N.Spelt (N.description room) N.BeforeCount bytes (N.WholeDescription area columns) → 0 < length bytes
 some_bytes _ [] h = absurd (let same = N.one_state _ _ _ _ _ h (N.Spelt-none _ _) in cc)
 some_bytes _ (x ∷ bytes) h = omega arith
 
@@ -324,7 +324,8 @@ some_columns = grind arith
 
 pub begins_lead : {charset : Charset} {room : ℕ} {tokens : List Token} {byte : ℕ} {described : Bool} {bytes : List ℕ} {begun : N.Lead}
     → (N.lead_of byte ≡ Some begun) × N.IsUnder described begun → bytes ≡ N.encoded_after [] tokens → (described ≡ true → N.IsDescription bytes)
-    → N.IsDescribed described (N.encoded_after [] tokens) (N.described_after None tokens) → BeginsToken charset room tokens byte (N.in_lead charset (columns_of bytes) begun tokens)
+    → N.IsDescribed described (N.encoded_after [] tokens) (N.described_after None tokens)
+    → BeginsToken charset room tokens byte (N.in_lead charset (columns_of bytes) begun tokens)
 begins_lead = grind (arith, some_columns, start_text)
 
 -- the first byte of a token is read, and nothing put for it

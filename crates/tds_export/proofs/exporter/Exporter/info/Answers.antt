@@ -7,5 +7,6 @@ returns-in_err-pass_notice g c = N.TokenSteps.step_read c.requires.running (sear
     (N.Bodies.notice_stops _ begun (c.in_err-pass_notice.ensures.gives.1 _ _ tokens N.AnInfo N.refl)))
 
 pub returns : goal.returns
-returns g c = N.TokenSteps.step_read c.requires.running (search N.rules) (λ tokens begun. let x = c.in_ok-pass_notice.ensures.gives.1 _ _ tokens N.AnInfo N.refl in
+returns g c = N.TokenSteps.step_read c.requires.running (search N.rules) (λ tokens begun.
+    let x = c.in_ok-pass_notice.ensures.gives.1 _ _ tokens N.AnInfo N.refl in
     N.TokenSteps.quietly begun N.refl (N.TokenSteps.bare_reads begun _ x.reads x.place_is N.refl N.refl (grind (N.arith, N.TokenLaws.tracked))))
