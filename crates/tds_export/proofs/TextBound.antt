@@ -1,6 +1,6 @@
 -- The text so far is no longer than 64 bytes for each byte read.
 use Rattle.tds_export.proofs as N
-use N.{Conversion, HexDigits, List, [], arith, choose, emit, length, true, ℕ, ◌*◌, ◌++◌, ◌+◌, ◌<◌, ◌^◌, ◌∷◌, ◌≡◌, ◌≤◌, ⊤, Bool, Column, None, Part, Some}
+use N.{Conversion, HexDigits, List, [], arith, choose, emit, length, true, ℕ, ◌*◌, ◌++◌, ◌+◌, ◌∷◌, ◌≡◌, ◌≤◌, ⊤, Bool, Column, None, Part, Some}
 use N.{false, joined, length-append, response, text}
 use N.SomeBytes.{byte_below, little_below}
 use N.TokenLaws.{bare, bare_body, bare_fixed, begun_after, texts}

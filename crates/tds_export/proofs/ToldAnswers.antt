@@ -2,7 +2,7 @@
 use Rattle.tds_export.proofs as N
 use N.{List, Run, Some, Stop, [], ap, arith, grammar, inl, inr, length, text, ℕ, ◌++◌, ◌<◌, ◌∙◌, ◌≡◌, limits, ◌+◌, Fault, Packet, Spelt, Token, wire}
 use N.{wire_of, ◌-◌, ◌==◌, ◌⊎◌, ◌∷◌, ◌≤◌, Part, AreBytes, Bool, ExportInput, SinkView, IsWriter, Ok, Puts, PayloadView, append-nil, drop, fresh_at}
-use N.{length-append, payload_of, refl, response, response_start, run_of, subst, sym, take, text_put, text_so_far, ◌*◌, ◌/◌}
+use N.{length-append, payload_of, refl, response, response_start, run_of, sym, take, text_put, text_so_far, ◌*◌, ◌/◌}
 use N.DeviceFaults.{no_failure}
 use N.ReadingGrows.{text_along}
 use N.ResponseLaws.{one_accepted, refused_response, response_is_read, spelt_both}

@@ -27,18 +27,18 @@ unfoldable pub use Rattle.{
 }
 pub use base_laws.Common.{◌≡◌, ◌∙◌, inl, inr, ℕ, ◌+◌, ◌≤◌, List, [], ◌∷◌, ◌++◌, length, take, drop, refl, sym, ap, subst, arith, append_assoc, append-nil}
 pub use base_laws.Common.{take-append-drop, Result, Ok, Err, ◌-◌, ◌^◌, ◌<◌, Bool, false, length-append, zero, suc, ◌%◌, true, replicate, Option, ◌*◌}
-pub use base_laws.Common.{slice_index, map, ◌⊎◌, MatchResult, unsigned_abs, length-take, ◌/◌, length-drop, max, take-add, drop-cons, length-take-le, rules}
+pub use base_laws.Common.{slice_index, map, ◌⊎◌, MatchResult, length-take, ◌/◌, length-drop, max, take-add, drop-cons, length-take-le, rules}
 pub use base_laws.Common.{take_all, zero-add}
 pub use base_laws.KnownBytes.{Consumes-nil}
-pub use base_laws.Math.Seq.{get_or-append_seam, take-append_seam, drop-append_seam, take-append-add, get_or-drop}
-pub use base_laws.lemmas.Bool.{ne_eqb, and_parts, agree_below, agree_below_at}
+pub use base_laws.Math.Seq.{take-append_seam, drop-append_seam, take-append-add}
+pub use base_laws.lemmas.Bool.{ne_eqb, agree_below, agree_below_at}
 pub use base_laws.lemmas.Bool.Decides.{nat_tests}
 pub use base_laws.lemmas.Grind.{flat_map-append, common_steps}
 pub use base_laws.lemmas.List.{length-replicate, length-map, map-append, drop-drop, take-append-le}
 pub use base_laws.lemmas.Str.{utf8_valid_len_le}
 pub use base.Int.{cast_signed, w32, cast_unsigned}
 pub use base.Io.KnownBytes.{Appends, Consumes}
-pub use base.Prelude.{◌==◌, is_ok, is_some, Some, None, ◌&&◌, not, nat_lt, if◌then◌else◌, IsTrue, encode_utf8_all, ⊤, codes, ℤ, option_map, IfOk}
+pub use base.Prelude.{◌==◌, is_ok, is_some, Some, None, ◌&&◌, not, nat_lt, if◌then◌else◌, IsTrue, encode_utf8_all, ⊤, ℤ, option_map, IfOk}
 pub use base.Result.{IsErrAnd}
 pub use Rattle.byteorder.specs.Endian.{little_number, little_from}
 pub use Rattle.byteorder.specs.Numbers.{little_from-lt}
@@ -50,7 +50,7 @@ pub use meter.declared.areas.Areas.{Areas}
 pub use values_laws.TextLengths.{length-text_of}
 pub use values_laws.TypeInfoLemmas.{bare_type, valid_of, rest_length_of}
 pub use values.Kind.{is_scalar, is_valid, is_length_allowed}
-pub use values.Numbers.{little, integer_of}
+pub use values.Numbers.{little}
 pub use values.Scalar.{read_of, checked, value_of}
 pub use values.ScalarText.{text_of, FitsWidths}
 pub use values.TimeOfDay.{time_length}
@@ -65,7 +65,7 @@ pub use packet_laws.Choices.{choose, choose_false, eq_true, eq_false, test_lt, i
 pub use packet_laws.ElementLaws.{Spelt-induct, feed-Spelt, feed_all-append, longest_cut, one_longest, read_longest, told, Spelt-append, Spelt-step, Spelt-none}
 pub use packet_laws.ElementLaws.{Inside, Inside-Spelt, AreBytes-front, AreBytes-back, longest_refused, Spelt-one, some_longest, one_state, refused_for_good}
 pub use packet_laws.ElementLaws.{no_further}
-pub use packet_laws.Feeding.{Reading, feed_all, read, state_of, rest_of, fault_of}
+pub use packet_laws.Feeding.{Reading, read, state_of, rest_of, fault_of}
 pub use packet_laws.Fronts.{BeginsMessage, EndsMessage, StopsAfterPackets, in_last, takes_begins, ends_front, over_front}
 pub use packet_laws.Futures.{Ends-after, Takes-none, Takes-trans}
 pub use packet_laws.InnerGrammars.{reads_inside, stops_inside, last_inside}
@@ -78,10 +78,10 @@ pub use packet_laws.Steps.{stops_after, takes_both, refused_at_once, cut_at_once
 pub use packet_laws.WireFaults.{IsOfWire, message_of_wire}
 pub use packet.Coming.{Coming, before, whole_message}
 pub use packet.Elements.{IsRefused, Longest, Spelt, AreBytes, IsNext, Grammar}
-pub use packet.Packets.{AreBefore, BeforeBody, BeforeHeader, AfterLast, Message, Packet, WireFault, WirePart, WirePlace, header_length, no_wire, payload_of}
+pub use packet.Packets.{AreBefore, BeforeBody, BeforeHeader, AfterLast, Message, Packet, WirePart, WirePlace, header_length, no_wire, payload_of}
 pub use packet.Packets.{wire, wire_add, wire_of, with_packet, AreMessage}
 pub use packet.PayloadView.{PayloadView, Takes, Ends, began_at, begun, IsOver, IsBetween}
-pub use packet.Payloads.{IsOnSame, seen, buffered}
+pub use packet.Payloads.{seen, buffered}
 pub use packet.Reading.{StopsReading, RefusesNext, Reads, CutsNext}
 pub use packet.declared.fault.Fault.{Fault}
 pub use packet.declared.fault.Fault.TheVariants.{BadNotice, BadValue, BadText, OddText, PlpLength, BadTypeInfo, ReadFailed, WriteFailed, MessageEnded}
@@ -97,7 +97,7 @@ pub use columns_laws.ColumnMeaning.{not_long, not_zero, room_for, known_type, so
 pub use columns_laws.ElementSteps.{cut_into, refused_into}
 pub use columns_laws.ViewLaws.{description_shows}
 pub use columns.Description.{Column, SpellsColumn, SpellsColumns, ColumnPlace, ColumnHead, ColumnInfo, NameCount, NameUnits, DescriptionPart, BeforeCount}
-pub use columns.Description.{NoDescription, InColumn, WholeDescription, with_column, with_kind, add_described, description, span}
+pub use columns.Description.{NoDescription, InColumn, WholeDescription, with_column, with_kind, add_described, description}
 pub use columns.Elements.{TakesInto, EndsInto}
 pub use columns.Gather.{Describes, StopsDescribing}
 pub use columns.ReturnedType.{return_column, KnownType, NoType, ReadsType, StopsType, TypeHead, TypePart, TypeRest, returned_type, with_known}
@@ -114,7 +114,7 @@ pub use text.Utf16.{characters}
 pub use csv_laws.Puttings.{PutsPiece-none, PutsPiece-trans}
 pub use csv_laws.Sinks.{Puts-none, Adds-trans}
 pub use csv_laws.Streams.{breaks_after, breaks_inside, puts_both, puts_inside}
-pub use csv.Sinks.{SinkView, Finishes, held, WritesPrefix, Puts, IsWriting, PutsPiece, Adds, IsOnSameSink, FinishesSink}
+pub use csv.Sinks.{SinkView, Finishes, held, WritesPrefix, Puts, IsWriting, PutsPiece, Adds, FinishesSink}
 pub use csv.Streaming.{PutsText, StopsStreaming, Streams, WritesPrefixStreaming}
 pub use csv.declared.sink.Sink.{Sink}
 pub use cells_laws.CellLaws.{cell_is_read}
@@ -131,10 +131,10 @@ pub use Rattle.tds_rows.proofs.Successes.{rose}
 pub use rows.PassedCells.{PassesCell, StopsPassing}
 pub use rows.RowSteps.{ReadsRows, RowsStop}
 pub use export.Completion.{zeros, zero_chunks, terminator, rest_of_chunks, rest_of_cell, int_column, int_columns, least_info, rest_of_description, rest_of_row}
-pub use export.Completion.{rest_of_return, rest_of_token, done, completion, CanBeCompleted, rest_of_return_head, rest_of_value, rest_of_cells, all_clear}
-pub use export.Exporters.{View, IsOnSameRun, IsRunning, LeavesRun, StepRead, ReadsNext, StopsIn, view_of, FindsEnd}
+pub use export.Completion.{rest_of_return, rest_of_token, completion, CanBeCompleted, rest_of_return_head, rest_of_cells, all_clear}
+pub use export.Exporters.{View, IsRunning, LeavesRun, StepRead, ReadsNext, StopsIn, view_of, FindsEnd}
 pub use export.Exports.{StopsExport, begun_at, fresh_at, Reports, IsReader, IsWriter, FlushedOrFailed, stopped_with}
-pub use export.Moments.{Run, ExportInput, grammar_of, limits_of, FailsToRead, FailsToWrite, limits, run_of, text_put, waiting, moment}
+pub use export.Moments.{Run, ExportInput, grammar_of, limits_of, FailsToRead, FailsToWrite, limits, run_of, text_put, moment}
 pub use export.Noticing.{ReadsNotice, StopsInNotice}
 pub use export.Outcome.{Outcome, IsAccepted, Packets, Stops, SucceedsIfAccepted, grammar, server_error, signed, IsKept, Keeps, StopsInPayload, StopsOnWire}
 pub use export.Outcome.{Answer, Bounded, ReadsPart, Reported, StopsInText, Comes}
@@ -144,7 +144,7 @@ pub use export.ReturnValue.{InReturnCell, with_value, with_return_kind, return_f
 pub use export.ReturnValue.{return_size}
 pub use export.Returning.{ReadsReturn, ReadsValue, StopsReturn, before_value}
 pub use export.Steps.{Reflects, after_tokens, IsHolding, ReadsTokens, StepStops, TracksBefore, in_length, RunStops, CompletesResponse, IsNoted, description_of}
-pub use export.Steps.{StopsInWriting, ReadsWhole, in_return, IsDescribed, Tracks, IsRefusedByte, IsUnder, in_lead, lead, in_fields, in_metadata, in_row}
+pub use export.Steps.{StopsInWriting, ReadsWhole, in_return, IsDescribed, Tracks, IsUnder, in_lead, lead, in_fields, in_metadata, in_row}
 pub use export.TokenBytes.{Bodied, APassed, AnError, AnInfo, ADone, Lead, done_byte, lead_of, Fixed, AStatus, ADoneInProc, AMetadata, ARow, AnNbcRow, WithBody}
 pub use export.TokenBytes.{WithFields, AReturn, is_row_lead}
 pub use export.TokenGrammar.{Part, response_start, TokenBody, TokenLength, bodied, holds_notice, is_notice, part_fault, response, with_token, Open, Between}
