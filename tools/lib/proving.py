@@ -24,7 +24,7 @@ MOST_JOBS = 4
 LATEST = 10
 
 # What the proofs of all crates take by the clock, from nothing.
-WHOLE = "all of them take 15 to 22 minutes on four processors"
+WHOLE = "all of them take 14 to 27 minutes on four processors"
 
 
 class Progress:
